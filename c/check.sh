@@ -1,0 +1,17 @@
+#!/bin/sh
+# Compiles the C example against the header and the static library, and runs it
+# under AddressSanitizer and UndefinedBehaviorSanitizer.
+#
+# COPP3_LIB_DIR is the folder of libcopp3_c.a, by default target/staticlib.
+set -eu
+here=$(cd "$(dirname "$0")" && pwd)
+lib=${COPP3_LIB_DIR:-$here/../target/staticlib}
+out=${COPP3_C_OUT:-$here/../target/c}
+mkdir -p "$out"
+
+"${CC:-cc}" -std=c11 -Wall -Wextra -Werror -g -O1 \
+    -fsanitize=address,undefined -fno-sanitize-recover=all \
+    -I "$here/../include" "$here/example.c" "$lib/libcopp3_c.a" -lm -o "$out/example"
+"$out/example" >"$out/example.txt"
+head -n 1 "$out/example.txt"
+echo "C example: passed"

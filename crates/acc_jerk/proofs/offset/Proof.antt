@@ -1,0 +1,32 @@
+use Prim.Native.Nat.{_-_, _≤_}
+use mathlib.Core.Path.{_≡_, refl}
+use native.Mathlib.Omega.{arith}
+use lib.ListN.{take}
+use denote.Ref.{now}
+use Rattle.model.specs.Lists.{total}
+use Rattle.acc_jerk.proofs.Sums.{before-next, before-within, same-place}
+use borrow.Author.Needs.{needs}
+use Rattle.acc_jerk.proofs.offset.Statement.{statement}
+use Rattle.acc_jerk.proofs.offset.Tie as tie
+
+abbrev Inv-loop : tie.InvT-loop
+Inv-loop counts k sum₀ i₀ sum i = (i ≤ k) × (sum ≡ total (take i counts))
+
+abbrev μ-loop : tie.MeasureT-loop
+μ-loop counts k sum₀ i₀ sum i = k - i
+
+pub offset-spec : {M : Type 1} → statement M
+offset-spec =
+    tie.close
+    (tie.spec
+    Inv-loop
+    μ-loop
+    (λ c. (omega arith, refl))
+    (λ c. search needs)
+    (λ c. search needs)
+    (λ c κs. search needs)
+    (λ c. omega (arith, (c .before .before .before .before .before .pre), (c .before .before .before .loop .inv .1), (c .wide .ensures), before-within (now (c .before .before .before .before .before .args .counts)) (c .before .before .before .loop .i)))
+    (λ c. search needs)
+    (λ c. search needs)
+    (λ c. (omega (arith, (c .before .before .loop-test)), omega (arith, (c .before .before .before .loop .inv .1), (c .wide .ensures), before-next (now (c .before .before .before .before .before .args .counts)) (c .before .before .before .loop .i) (omega (arith, (c .before .before .before .before .before .pre), (c .before .before .loop-test))))))
+    (λ c. same-place (now (c .before .before .before .args .counts)) ((c .before .loop .inv) .1) ((c .before .loop .inv) .0) (c .loop-test .left)))

@@ -1,0 +1,24 @@
+use mathlib.Core.Path.{sym, _∙_}
+use denote.Ref.{now}
+use Rattle.model.specs.Problem.{problem}
+use Rattle.model.proofs.Usable.{usable, usable-sizes}
+use Rattle.model.proofs.Counted.{counted}
+use Rattle.assembly.proofs.Landed.{stopped, passed}
+use borrow.Author.Needs.{needs}
+use Rattle.assembly.proofs.verdict.Statement.{statement}
+use Rattle.assembly.proofs.verdict.Tie as tie
+
+enum-told : tie.Need-enum-told
+enum-told c = search needs
+
+pub verdict-spec : {M : Type 1} → statement M
+verdict-spec =
+    tie.close
+    (tie.spec
+    (λ c κs. tt)
+    enum-told
+    (λ c. search needs)
+    (λ c. let a = (c .before .before .before .before .before .before .before .before .before .before .before .before .before .before .before .before .before .before .before .before .before .args) in stopped (problem (a .job) (a .objectives) (now (a .grid)) (now (a .acc-rows)) (now (a .jerk-rows)) (now (a .amax)) (now (a .acc-a)) (now (a .acc-b)) (now (a .acc-max)) (now (a .jerk-a)) (now (a .jerk-b)) (now (a .jerk-c)) (now (a .jerk-max)) (now (a .thermal)) (now (a .torque-a)) (now (a .torque-b)) (now (a .torque-g)) (now (a .start-roots)) (now (a .end-roots)) (now (a .pool))) (a .lengths) (c .before .before .check .ensures) (c .enum-told2 .given .1))
+    (λ c κs. sym (c .before .before .check .ensures) ∙ (c .enum-told .given .1))
+    (λ c κs. search needs)
+    (λ c. let a = (c .before .before .before .before .before .before .before .before .before .before .before .before .before .before .before .before .before .before .before .before .before .before .before .args) in let p = (problem (a .job) (a .objectives) (now (a .grid)) (now (a .acc-rows)) (now (a .jerk-rows)) (now (a .amax)) (now (a .acc-a)) (now (a .acc-b)) (now (a .acc-max)) (now (a .jerk-a)) (now (a .jerk-b)) (now (a .jerk-c)) (now (a .jerk-max)) (now (a .thermal)) (now (a .torque-a)) (now (a .torque-b)) (now (a .torque-g)) (now (a .start-roots)) (now (a .end-roots)) (now (a .pool))) in let e = (c .before .before .before .before .check .ensures) in let f = (c .before .before .enum-told .given .1) in passed p (a .lengths) e f (counted p (usable-sizes p (usable p (sym e ∙ f)))) (c .before .dry .ensures) (c .room-and-finite .ensures)))

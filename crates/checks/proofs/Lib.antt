@@ -1,0 +1,5 @@
+pub mod Chain
+pub mod Search
+pub mod Tests
+pub mod Slots
+pub mod Within

@@ -1,0 +1,17 @@
+use borrow.Author.Needs.{needs}
+use Rattle.copp3_c.proofs.Answered.{size-refused, size-told}
+use Rattle.copp3_c.proofs.copp3_size.Statement.{statement}
+use Rattle.copp3_c.proofs.copp3_size.Tie as tie
+
+returns : tie.Need-returns
+returns c = size-refused _ (c .before .before .before .before .kind-check .ensures) (c .before .before .known .given .1) (c .answer-record .ensures)
+
+returns-2 : tie.Need-returns-2
+returns-2 c =
+    size-told _ (c .before .before .before .before .before .kind-check .ensures) (c .before .size .result) (c .before .before .before .enum-told .given .1)
+    (rw (c .before .before .objectives-of .ensures) at (c .before .size .ensures)) (c .answer-record2 .ensures)
+
+pub copp3-size-spec : {M : Type 1} → statement M
+copp3-size-spec =
+    tie.close
+    (tie.spec (λ c κs. search needs) (λ c. search needs) (λ c κs. search needs) returns (λ c. search needs) (λ c κs. search needs) (λ c κs. search needs) (λ c κs. search needs) returns-2)

@@ -1,0 +1,58 @@
+-- What the exported functions add to sizing and the assembly: plain records for objectives and for the answer, and the judgement of a kind.
+use Prim.Native.Nat.{ℕ, min}
+use mathlib.Core.Bool.{cond}
+use mathlib.Core.List.{List, [], _∷_}
+use lib.Dec.{eqb, ltb}
+use lib.Ieee.{nan}
+use lib.ListN.{getD, length}
+use Rattle.model.specs.Verdicts.{lowest, itself}
+use Rattle.model.specs.Problem.{Problem}
+use Rattle.model.specs.Answers.{Told, sizing, Buffers, Result, assembly}
+use Rattle.model.specs.declared.Verdict.{Verdict}
+use Rattle.model.specs.declared.Verdict.the-variants.{Accepted, Refused}
+use Rattle.model.specs.declared.Objective.{Objective}
+use Rattle.model.specs.declared.Objective.the-variants.{Time, ThermalEnergy, TotalVariationTorque, Linear}
+use Rattle.copp3_c.specs.declared.ObjectiveRecord.{ObjectiveRecord}
+use Rattle.copp3_c.specs.declared.AnswerRecord.{AnswerRecord}
+
+-- kind 0 Time, 1 ThermalEnergy, 2 TotalVariationTorque, 3 Linear; an unknown kind is refused before it is looked at
+unfoldable pub objectiveOf : ObjectiveRecord → Objective
+objectiveOf r =
+    cond (eqb (r .kind) 0) (Time (r .weight))
+    (cond (eqb (r .kind) 1) (ThermalEnergy (r .weight) (r .start) (r .len))
+    (cond (eqb (r .kind) 2) (TotalVariationTorque (r .weight) (r .start) (r .len))
+    (Linear (r .weight) (r .start) (r .len) (r .start2) (r .len2))))
+
+abbrev pub blank : ObjectiveRecord
+blank = record { kind = 0; weight = nan; start = 0; len = 0; start2 = 0; len2 = 0 }
+
+-- 40: a record that counts has an unknown kind; place its index
+unfoldable pub kindRefusal : ℕ → List ObjectiveRecord → Verdict
+kindRefusal count items = lowest 40 itself (λ i. ltb 3 (getD items i blank .kind)) 0 (min count 16)
+
+-- a refusal has one value, its place, and no counts; a success has the four counts and no place
+unfoldable pub answerRecord : Told → AnswerRecord
+answerRecord t =
+    cond (eqb (length (t .values)) 1)
+    (record { number = t .number; place = getD (t .values) 0 0; entries = 0; rows = 0; cones = 0; columns = 0 })
+    (record { number = t .number; place = 0; entries = getD (t .values) 0 0; rows = getD (t .values) 1 0; cones = getD (t .values) 2 0; columns = getD (t .values) 3 0 })
+
+-- the kinds are judged before refusal 1; what is refused changes no buffer
+unfoldable pub sizingAfter : Verdict → Problem → Told
+sizingAfter Accepted p = sizing p
+sizingAfter (Refused r k) p = record { number = r; values = k ∷ [] }
+
+unfoldable pub assemblyAfter : Verdict → Problem → Buffers → Result
+assemblyAfter Accepted p b = assembly p b
+assemblyAfter (Refused r k) p b = record { told = record { number = r; values = k ∷ [] }; buffers = b }
+
+-- the answer, and the buffers after it
+pub record Exported : Type 0 where
+  pub answer : AnswerRecord
+  pub buffers : Buffers
+
+abbrev pub exported : AnswerRecord → Buffers → Exported
+exported r b = record { answer = r; buffers = b }
+
+abbrev pub exportedAs : Result → Exported
+exportedAs x = exported (answerRecord (x .told)) (x .buffers)

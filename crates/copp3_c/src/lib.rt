@@ -1,0 +1,264 @@
+// Sizing and the assembly for C and Rust. Objectives come as plain records with a kind; include/copp3_assembly.h is the same for C.
+
+ghost use mathlib.Core.Path.{_≡_};
+ghost use mathlib.Core.List.{map};
+ghost use Prim.Native.Nat.{min};
+ghost use Rattle.copp3_c.specs.Exported.{objectiveOf, kindRefusal, answerRecord, sizingAfter, assemblyAfter, exported, exportedAs};
+ghost use Rattle.model.specs.Problem.{problem};
+ghost use Rattle.model.specs.Answers.{told, sizing};
+ghost use Rattle.assembly.specs.Program.{buffers};
+use model::Answer;
+use model::Job;
+use model::Objective;
+use model::Verdict;
+
+// kind: 0 Time, 1 ThermalEnergy, 2 TotalVariationTorque, 3 Linear. The parts (start, length) of the pool: scales, or alpha and then beta.
+#[repr(C)]
+pub struct ObjectiveRecord {
+    pub kind: u64,
+    pub weight: f64,
+    pub start: usize,
+    pub len: usize,
+    pub start2: usize,
+    pub len2: usize,
+}
+
+#[repr(C)]
+pub struct ObjectiveRecords {
+    pub items: [ObjectiveRecord; 16],
+}
+
+// number 0: accepted, with the four counts; else a refusal's number and place.
+#[repr(C)]
+pub struct AnswerRecord {
+    pub number: usize,
+    pub place: usize,
+    pub entries: usize,
+    pub rows: usize,
+    pub cones: usize,
+    pub columns: usize,
+}
+
+// The objective that a record stands for.
+fn objective_of(r: ObjectiveRecord) -> Objective
+    ensures { λ o. ⌜ o ≡ objectiveOf r ⌝ }
+{
+    if r.kind == 0 {
+        return Objective::Time(r.weight);
+    }
+    if r.kind == 1 {
+        return Objective::ThermalEnergy {
+            weight: r.weight,
+            start: r.start,
+            len: r.len,
+        };
+    }
+    if r.kind == 2 {
+        return Objective::TotalVariationTorque {
+            weight: r.weight,
+            start: r.start,
+            len: r.len,
+        };
+    }
+    Objective::Linear {
+        weight: r.weight,
+        alpha: r.start,
+        alpha_len: r.len,
+        beta: r.start2,
+        beta_len: r.len2,
+    }
+}
+
+fn objectives_of(items: [ObjectiveRecord; 16]) -> [Objective; 16]
+    ensures { λ os. ⌜ os ≡ map objectiveOf items ⌝ }
+{
+    let mut os = [Objective::Time(0.0); 16];
+    for i in 0..16 {
+        os[i] = objective_of(items[i]);
+    }
+    os
+}
+
+// How many records count.
+fn counting(count: usize) -> usize
+    ensures { λ r. ⌜ r ≡ min count 16 ⌝ }
+{
+    if count < 16 { count } else { 16 }
+}
+
+// Whether each kind that counts is known.
+fn kind_check(items: [ObjectiveRecord; 16], count: usize) -> Verdict
+    ensures { λ v. ⌜ v ≡ kindRefusal count items ⌝ }
+{
+    let end = counting(count);
+    for i in 0..end {
+        let r = items[i];
+        if 3 < r.kind {
+            return Verdict::Refused {
+                number: 40,
+                place: i,
+            };
+        }
+    }
+    Verdict::Accepted
+}
+
+fn answer_record(a: Answer) -> AnswerRecord
+    ensures { λ r. ⌜ r ≡ answerRecord (told a) ⌝ }
+{
+    match a {
+        Answer::Refusal { number, place } => AnswerRecord {
+            number: number,
+            place: place,
+            entries: 0,
+            rows: 0,
+            cones: 0,
+            columns: 0,
+        },
+        Answer::Counts {
+            entries,
+            rows,
+            cones,
+            columns,
+        } => AnswerRecord {
+            number: 0,
+            place: 0,
+            entries: entries,
+            rows: rows,
+            cones: cones,
+            columns: columns,
+        },
+    }
+}
+
+// Document 01's sizing: every refusal tested before 19, or the four counts.
+#[no_mangle]
+pub extern "C" fn copp3_size(
+    job: Job,
+    records: ObjectiveRecords,
+    grid: &[f64],
+    acc_rows: &[u32],
+    jerk_rows: &[u32],
+    amax: &[f64],
+    acc_a: &[f64],
+    acc_b: &[f64],
+    acc_max: &[f64],
+    jerk_a: &[f64],
+    jerk_b: &[f64],
+    jerk_c: &[f64],
+    jerk_max: &[f64],
+    thermal: &[f64],
+    torque_a: &[f64],
+    torque_b: &[f64],
+    torque_g: &[f64],
+    start_roots: &[f64],
+    end_roots: &[f64],
+    pool: &[f64],
+) -> AnswerRecord
+    ensures { λ r. ⌜ r ≡ answerRecord (sizingAfter (kindRefusal (job .count) (records .items)) (problem job (map objectiveOf (records .items)) (now (grid .entry)) (now («acc_rows» .entry)) (now («jerk_rows» .entry)) (now (amax .entry)) (now («acc_a» .entry)) (now («acc_b» .entry)) (now («acc_max» .entry)) (now («jerk_a» .entry)) (now («jerk_b» .entry)) (now («jerk_c» .entry)) (now («jerk_max» .entry)) (now (thermal .entry)) (now («torque_a» .entry)) (now («torque_b» .entry)) (now («torque_g» .entry)) (now («start_roots» .entry)) (now («end_roots» .entry)) (now (pool .entry)))) ⌝ }
+{
+    let items = records.items;
+    let known = kind_check(items, job.count);
+    if let Verdict::Refused { number, place } = known {
+        return answer_record(Answer::Refusal {
+            number: number,
+            place: place,
+        });
+    }
+    let a = sizing::size(
+        job,
+        objectives_of(items),
+        grid,
+        acc_rows,
+        jerk_rows,
+        amax,
+        acc_a,
+        acc_b,
+        acc_max,
+        jerk_a,
+        jerk_b,
+        jerk_c,
+        jerk_max,
+        thermal,
+        torque_a,
+        torque_b,
+        torque_g,
+        start_roots,
+        end_roots,
+        pool,
+    );
+    answer_record(a)
+}
+
+// Document 01's assembly.
+#[no_mangle]
+pub extern "C" fn copp3_assemble(
+    job: Job,
+    records: ObjectiveRecords,
+    grid: &[f64],
+    acc_rows: &[u32],
+    jerk_rows: &[u32],
+    amax: &[f64],
+    acc_a: &[f64],
+    acc_b: &[f64],
+    acc_max: &[f64],
+    jerk_a: &[f64],
+    jerk_b: &[f64],
+    jerk_c: &[f64],
+    jerk_max: &[f64],
+    thermal: &[f64],
+    torque_a: &[f64],
+    torque_b: &[f64],
+    torque_g: &[f64],
+    start_roots: &[f64],
+    end_roots: &[f64],
+    pool: &[f64],
+    rows: &mut [u32],
+    columns: &mut [u32],
+    values: &mut [f64],
+    right: &mut [f64],
+    kinds: &mut [u8],
+    dimensions: &mut [u32],
+    cost: &mut [f64],
+) -> AnswerRecord
+    ensures { λ r. ⌜ exported r (buffers (now (rows .exit)) (now (columns .exit)) (now (values .exit)) (now (right .exit)) (now (kinds .exit)) (now (dimensions .exit)) (now (cost .exit))) ≡ exportedAs (assemblyAfter (kindRefusal (job .count) (records .items)) (problem job (map objectiveOf (records .items)) (now (grid .entry)) (now («acc_rows» .entry)) (now («jerk_rows» .entry)) (now (amax .entry)) (now («acc_a» .entry)) (now («acc_b» .entry)) (now («acc_max» .entry)) (now («jerk_a» .entry)) (now («jerk_b» .entry)) (now («jerk_c» .entry)) (now («jerk_max» .entry)) (now (thermal .entry)) (now («torque_a» .entry)) (now («torque_b» .entry)) (now («torque_g» .entry)) (now («start_roots» .entry)) (now («end_roots» .entry)) (now (pool .entry))) (buffers (now (rows .entry)) (now (columns .entry)) (now (values .entry)) (now (right .entry)) (now (kinds .entry)) (now (dimensions .entry)) (now (cost .entry)))) ⌝ }
+{
+    let items = records.items;
+    let known = kind_check(items, job.count);
+    if let Verdict::Refused { number, place } = known {
+        return answer_record(Answer::Refusal {
+            number: number,
+            place: place,
+        });
+    }
+    let a = assembly::assemble(
+        job,
+        objectives_of(items),
+        grid,
+        acc_rows,
+        jerk_rows,
+        amax,
+        acc_a,
+        acc_b,
+        acc_max,
+        jerk_a,
+        jerk_b,
+        jerk_c,
+        jerk_max,
+        thermal,
+        torque_a,
+        torque_b,
+        torque_g,
+        start_roots,
+        end_roots,
+        pool,
+        rows,
+        columns,
+        values,
+        right,
+        kinds,
+        dimensions,
+        cost,
+    );
+    answer_record(a)
+}

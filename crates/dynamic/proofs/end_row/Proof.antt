@@ -1,0 +1,25 @@
+use native.Mathlib.Omega.{arith}
+use borrow.Author.Tests.{lt-ltb, le-ltb}
+use Rattle.model.specs.Problem.{stop}
+use Rattle.buffers.proofs.Laws.{wrote-skip}
+use borrow.Author.Needs.{needs}
+use Rattle.dynamic.proofs.end_row.Statement.{statement}
+use Rattle.dynamic.proofs.end_row.Tie as tie
+
+returns-2 : tie.Need-returns-2
+unfolding stop
+returns-2 c = rw (lt-ltb 0 (c .before .before .before .before .before .before .before .before .before .before .before .before .before .before .before .before .before .before .before .before .before .args .e .n1) (omega (arith, (c .before .before .before .before .before .before .before .before .before .before .before .before .before .before .if1 .left)))) (c .before .before .before .before .before .before .before .before .clarabel-dynamic-stationary-topp3 .ensures)
+
+pub end-row-spec : {M : Type 1} → statement M
+end-row-spec =
+    tie.close
+    (tie.spec
+    (λ c. rw (le-ltb 0 (c .before .before .before .before .before .before .before .args .e .n1) (omega (arith, c .if1 .taken))) wrote-skip)
+    (λ c. search needs)
+    (λ c. search needs)
+    (λ c κs. search needs)
+    (λ c. search needs)
+    (λ c. search needs)
+    (λ c. search needs)
+    (λ c. search needs)
+    returns-2)

@@ -1,0 +1,5 @@
+pub mod Charges
+pub mod Columns
+pub mod Gathering
+pub mod Cost
+pub mod Fitting

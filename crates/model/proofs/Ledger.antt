@@ -1,0 +1,107 @@
+-- The ledger, as one table by one proof: by sizing, by the assembly, and by the lengths of the assembled lists. Then document 01's "Traps in this Rust",
+-- each as a computed fact about the definitions.
+use mathlib.Core.Path.{_≡_, refl}
+use mathlib.Core.List.{List, [], _∷_, _++_, map}
+use lib.ListN.{replicate}
+use lib.Ieee.{Float, neg}
+use lib.Ieee
+use Rattle.model.specs.Numbers.{+0, +1, +2, +3, +4, +5, +6, half, +∞}
+use Rattle.model.specs.Lists.{joined}
+use Rattle.model.specs.Problem.{Problem, Path, Torque}
+use Rattle.model.specs.Problem as Sizes
+use Rattle.model.specs.Program.{Block, rightSides, dimension}
+use Rattle.model.specs.Program
+use Rattle.model.specs.Verdicts
+use Rattle.model.specs.Refusals.{refusal}
+use Rattle.model.specs.Refusals
+use Rattle.model.specs.Standard
+use Rattle.model.specs.Objectives.{timeBlock, thermalBlock}
+use Rattle.model.specs.Objectives
+use Rattle.model.specs.Assembled.{coneKinds, coneDimensions, cost, listLengths}
+use Rattle.model.specs.Assembled
+use Rattle.model.specs.Counts
+use Rattle.model.specs.Answers.{sizing, outcome, told}
+use Rattle.model.specs.Answers
+use Rattle.model.specs.Ledger.{Case, Line, line, assembledLine, caseA, cases, table, given}
+use Rattle.model.specs.declared.Objective.the-variants.{Time}
+use Rattle.model.specs.declared.Answer.the-variants.{Counts}
+
+-- whoever unfolds this unfolds every definition that the table computes with
+unfoldable pub everything : Unit {0}
+unfolding Verdicts._then_ Verdicts.refuse Verdicts.lowest Sizes.m Sizes.ends Sizes.L Sizes.skip Sizes.stop Refusals.gridRefusal Refusals.listRefusal Refusals.scalesRefusal Refusals.listsRefusal Refusals.objectivesRefusal Refusals.setupRefusal Refusals.table Refusals.tableIf Refusals.tablesRefusal Refusals.unusableEnd Refusals.crossed Refusals.boundsRefusal Refusals.refusal Standard.boundaryRows Standard.stationaryRow Standard.movingRows Standard.equalities Standard.upperRow Standard.endRows Program.positiveRow Standard.intervalRows Standard.firstOrder Standard.accelerationRows Standard.backwardRows Standard.forwardRows Standard.jerkRowsAt Standard.inequalities Standard.standard Standard.rootCone Standard.rootStage Standard.root Objectives.timeWeight Objectives.timeCone Objectives.timeBlock Objectives.thermalCone Objectives.thermalBlock Objectives.endTorqueRows Objectives.stepTorqueRows Objectives.torqueBlock Objectives.endCharge Objectives.linearBlock Objectives.objectiveBlock Assembled.objectiveBlocks Assembled.blocks Assembled.cones Assembled.bands Assembled.entries Assembled.rightSide Assembled.cost Assembled.rowNumbers Assembled.columnNumbers Assembled.values Assembled.coneKinds Assembled.coneDimensions Assembled.listLengths Counts.uppers Counts.accInside Counts.jerkInside Counts.standardCounts Counts.rootCounts Counts.objectiveCounts Counts.objectivesCounts Counts.counts Counts.objectiveBound Counts.objectivesBound Counts.entryBound Answers.sizing Answers.roomRefusal Answers.finiteRefusal Answers.outcome Answers.written Answers.result Answers.assembly Ieee.neg Ieee.add Ieee.sub Ieee.mul Ieee.div Ieee.lt Ieee.eq Ieee.ofBits
+everything = tt
+
+pub ledger : map line cases ≡ table
+unfolding everything
+ledger = refl
+
+-- the assembly gives the same table
+pub assembled : map assembledLine cases ≡ table
+unfolding everything
+assembled = refl
+
+-- case A's cones and cost
+pub caseA-kinds : coneKinds caseA ≡ 0 ∷ 1 ∷ 1 ∷ 2 ∷ 1 ∷ 2 ∷ []
+unfolding everything
+caseA-kinds = refl
+
+pub caseA-dimensions : coneDimensions caseA ≡ 6 ∷ 5 ∷ 1 ∷ 3 ∷ 1 ∷ 3 ∷ []
+unfolding everything
+caseA-dimensions = refl
+
+pub caseA-cost : cost caseA ≡ replicate 7 +0 ++ (+1 ∷ [])
+unfolding everything
+caseA-cost = refl
+
+-- ---- the traps
+
+-- "A root stage per objective: case B then grows too far." The ledger once more, by the lengths of the assembled lists
+abbrev measuredLine : Case → Line
+measuredLine c = record { name = c .name; told = outcome (refusal (c .problem)) (listLengths (c .problem)) }
+
+pub measured : map measuredLine cases ≡ table
+unfolding everything
+measured = refl
+
+-- "its column figure omits xi. With n=3, no stationary stations and one Time it says 11; 12 are needed."
+abbrev four : List Float
+four = +0 ∷ +1 ∷ +2 ∷ +3 ∷ []
+
+abbrev oneTime : Problem
+oneTime = given +0 four 0 0 1 (Time +1 ∷ []) (replicate 4 +∞) 0
+
+pub twelve-columns : sizing oneTime ≡ told (Counts 51 31 8 12)
+unfolding everything
+twelve-columns = refl
+
+pub twelve-costs : cost oneTime ≡ replicate 10 +0 ++ (+1 ∷ +1 ∷ [])
+unfolding everything
+twelve-costs = refl
+
+-- "the stationary ends take the weight itself, times table 10 at station 0 or n, and right side −(g + g at the end)":
+-- n = 3, N0 = N1 = 1, table 10 is 5, 1, 1/2, 6 and g is 1, 2, 4, 1
+abbrev path : Path
+path = record { grid = four; N0 = 1; N1 = 1 }
+
+abbrev torque : Torque
+torque = record { d = 1; a = replicate 4 +0; b = replicate 4 +0; g = +1 ∷ +2 ∷ +4 ∷ +1 ∷ [] }
+
+abbrev thermal : Block
+thermal = thermalBlock path torque (+5 ∷ +1 ∷ half ∷ +6 ∷ []) +1 (+1 ∷ []) 10
+
+pub thermal-cost : thermal .cost ≡ +5 ∷ +6 ∷ +4 ∷ +2 ∷ []
+unfolding everything
+thermal-cost = refl
+
+pub thermal-right : rightSides (joined (λ c. c .bands) (thermal .cones)) ≡ +0 ∷ +0 ∷ neg +3 ∷ +0 ∷ +0 ∷ neg +5 ∷ +0 ∷ +0 ∷ neg +2 ∷ +0 ∷ +0 ∷ neg +4 ∷ []
+unfolding everything
+thermal-right = refl
+
+-- "Dropping the last row of a Time cone because it has no entry; it carries the 2."
+pub time-dimensions : map dimension (timeBlock path +1 10 .cones) ≡ 2 ∷ 3 ∷ 3 ∷ []
+unfolding everything
+time-dimensions = refl
+
+pub time-right : rightSides (joined (λ c. c .bands) (timeBlock path +1 10 .cones)) ≡ +0 ∷ +0 ∷ +0 ∷ +0 ∷ +2 ∷ +0 ∷ +0 ∷ +2 ∷ []
+unfolding everything
+time-right = refl

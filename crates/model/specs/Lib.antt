@@ -1,0 +1,15 @@
+pub mod Base
+pub mod Numbers
+pub mod Lists
+pub mod Problem
+pub mod Verdicts
+pub mod Refusals
+pub mod Program
+pub mod Standard
+pub mod Objectives
+pub mod Assembled
+pub mod Counts
+pub mod Answers
+pub mod Usable
+pub mod Conic
+pub mod Ledger

@@ -1,0 +1,252 @@
+// Replays a case: decodes it, calls sizing and the assembly, and compares.
+ghost use mathlib.Core.Path.{_≡_};
+ghost use mathlib.Core.Bool.{true};
+ghost use Prim.Native.Nat.{_≤_};
+ghost use Rattle.replay_list.specs.File.{HeldPlaces, BuffersHold};
+use crate::compare::BYTE;
+use crate::compare::FLOAT;
+use crate::compare::NUMBER;
+use crate::compare::bytes_agree;
+use crate::compare::floats_agree;
+use crate::compare::numbers_agree;
+use crate::file::byte_at;
+use crate::file::past;
+use crate::file::short_at;
+use crate::input;
+use crate::input::Places;
+use crate::input::length_at;
+use crate::lent;
+use copp3_c::AnswerRecord;
+use copp3_c::ObjectiveRecords;
+use model::Job;
+
+// What was found: the case's group, whether all agrees, and where the next case begins, which is no
+// later place where the case is cut off.
+pub struct Replayed {
+    pub group: u8,
+    pub agrees: bool,
+    pub next: usize,
+}
+
+// Where what the buffers hold begins, after the rows, and where it ends.
+struct Held {
+    columns: usize,
+    values: usize,
+    right: usize,
+    kinds: usize,
+    dimensions: usize,
+    cost: usize,
+    end: usize,
+}
+
+fn item(s: &[u8], at: usize, i: usize) -> usize {
+    input::size_of(short_at(s, past(at, i, 4)))
+}
+
+fn sizing_at(s: &[u8], at: usize) -> AnswerRecord {
+    AnswerRecord {
+        number: item(s, at, 0),
+        place: item(s, at, 1),
+        entries: item(s, at, 2),
+        rows: item(s, at, 3),
+        cones: item(s, at, 4),
+        columns: item(s, at, 5),
+    }
+}
+
+// The assembly's answer has sizing's counts where it accepts.
+fn assembly_at(s: &[u8], at: usize) -> AnswerRecord {
+    let number = item(s, at, 6);
+    let place = item(s, at, 7);
+    if number == 0 {
+        return AnswerRecord {
+            number,
+            place,
+            entries: item(s, at, 2),
+            rows: item(s, at, 3),
+            cones: item(s, at, 4),
+            columns: item(s, at, 5),
+        };
+    }
+    AnswerRecord {
+        number,
+        place,
+        entries: 0,
+        rows: 0,
+        cones: 0,
+        columns: 0,
+    }
+}
+
+fn same_answer(a: AnswerRecord, b: AnswerRecord) -> bool
+    ensures { λ r. ⌜ (r ≡ true → a ≡ b) ⌝ }
+{
+    let refusal = (a.number == b.number) & (a.place == b.place);
+    let entries = (a.entries == b.entries) & (a.rows == b.rows);
+    refusal & entries & (a.cones == b.cones) & (a.columns == b.columns)
+}
+
+fn held_at(at: usize, counts: AnswerRecord) -> Held
+    ensures { λ h. ⌜ HeldPlaces at (counts .entries) (counts .rows) (counts .cones) (h .columns) (h .values) (h .right) (h .kinds) (h .dimensions) (h .cost) ⌝ }
+{
+    let columns = past(at, counts.entries, 4);
+    let values = past(columns, counts.entries, 4);
+    let right = past(values, counts.entries, 8);
+    let kinds = past(right, counts.rows, 8);
+    let dimensions = past(kinds, counts.cones, 1);
+    let cost = past(dimensions, counts.cones, 4);
+    let end = past(cost, counts.columns, 8);
+    Held {
+        columns,
+        values,
+        right,
+        kinds,
+        dimensions,
+        cost,
+        end,
+    }
+}
+
+fn buffers_agree(
+    s: &[u8],
+    at: usize,
+    counts: AnswerRecord,
+    rows: &[u32; 128],
+    columns: &[u32; 128],
+    values: &[f64; 128],
+    right: &[f64; 128],
+    kinds: &[u8; 128],
+    dimensions: &[u32; 128],
+    cost: &[f64; 128],
+) -> bool
+    ensures { λ t. ⌜ (t ≡ true → BuffersHold (now (s .entry)) at (counts .entries) (counts .rows) (counts .cones) (counts .columns) (now (rows .entry)) (now (columns .entry)) (now (values .entry)) (now (right .entry)) (now (kinds .entry)) (now (dimensions .entry)) (now (cost .entry))) ⌝ }
+{
+    let held = held_at(at, counts);
+    let entries = numbers_agree(s, at, counts.entries, rows)
+        & numbers_agree(s, held.columns, counts.entries, columns)
+        & floats_agree(s, held.values, counts.entries, values);
+    let cones = bytes_agree(s, held.kinds, counts.cones, kinds)
+        & numbers_agree(s, held.dimensions, counts.cones, dimensions);
+    entries
+        & cones
+        & floats_agree(s, held.right, counts.rows, right)
+        & floats_agree(s, held.cost, counts.columns, cost)
+}
+
+// The length of buffer k that is lent, of the 128 places that there are.
+fn lent_at(s: &[u8], places: Places, k: usize) -> usize
+    ensures { λ r. ⌜ r ≤ 128 ⌝ }
+{
+    let n = item(s, places.lengths, k);
+    if 128 < n { 128 } else { n }
+}
+
+fn assembly_agrees(
+    s: &[u8],
+    places: Places,
+    job: Job,
+    records: ObjectiveRecords,
+    floats: &[f64; 128],
+    numbers: &[u32; 64],
+    starts: &[usize; 19],
+) -> bool {
+    let mut rows = [NUMBER; 128];
+    let mut columns = [NUMBER; 128];
+    let mut values = [FLOAT; 128];
+    let mut right = [FLOAT; 128];
+    let mut kinds = [BYTE; 128];
+    let mut dimensions = [NUMBER; 128];
+    let mut cost = [FLOAT; 128];
+    let answer = lent::assemble(
+        job,
+        records,
+        floats,
+        numbers,
+        starts,
+        places,
+        &mut rows[..lent_at(s, places, 0)],
+        &mut columns[..lent_at(s, places, 1)],
+        &mut values[..lent_at(s, places, 2)],
+        &mut right[..lent_at(s, places, 3)],
+        &mut kinds[..lent_at(s, places, 4)],
+        &mut dimensions[..lent_at(s, places, 5)],
+        &mut cost[..lent_at(s, places, 6)],
+    );
+    let expected = assembly_at(s, places.answers);
+    if !same_answer(answer, expected) {
+        return false;
+    }
+    buffers_agree(
+        s,
+        places.held,
+        expected,
+        &rows,
+        &columns,
+        &values,
+        &right,
+        &kinds,
+        &dimensions,
+        &cost,
+    )
+}
+
+fn fits_at(s: &[u8], at: usize, i: usize) -> bool {
+    item(s, at, i) <= 128
+}
+
+// Whether the buffers' lengths and the four counts are within the arrays here.
+fn buffers_fit(s: &[u8], lengths: usize, answers: usize) -> bool {
+    let entries = fits_at(s, lengths, 0) & fits_at(s, lengths, 1) & fits_at(s, lengths, 2);
+    let cones = fits_at(s, lengths, 4) & fits_at(s, lengths, 5);
+    let lent = entries & fits_at(s, lengths, 3) & cones & fits_at(s, lengths, 6);
+    let wide = fits_at(s, answers, 2) & fits_at(s, answers, 3);
+    lent & wide & fits_at(s, answers, 4) & fits_at(s, answers, 5)
+}
+
+// Whether the case is within the arrays here.
+fn fits(s: &[u8], at: usize, starts: &[usize; 19], places: Places) -> bool {
+    let input = (starts[18] <= 128) & (places.end <= 64) & (length_at(s, at, 18) <= 16);
+    input & buffers_fit(s, places.lengths, places.answers)
+}
+
+fn case_agrees(s: &[u8], at: usize, starts: &[usize; 19], places: Places) -> bool {
+    let mut floats = [0.0; 128];
+    input::read_floats(s, places, starts[1], &mut floats);
+    let mut numbers = [0u32; 64];
+    input::read_numbers(s, places.numbers, &mut numbers);
+    let job = input::job_at(s, at);
+    let records = input::records_at(s, places.records, length_at(s, at, 18));
+    let sized = lent::size(job, records, &floats, &numbers, starts, places);
+    if !same_answer(sized, sizing_at(s, places.answers)) {
+        return false;
+    }
+    assembly_agrees(s, places, job, records, &floats, &numbers, starts)
+}
+
+// The case that begins at `at`.
+pub fn replay_case(s: &[u8], at: usize) -> Replayed {
+    let group = byte_at(s, at);
+    let starts = input::starts_at(s, at);
+    let places = input::places_at(s, at, &starts);
+    let held = held_at(places.held, assembly_at(s, places.answers));
+    let next = held.end;
+    if s.len() < next {
+        return Replayed {
+            group,
+            agrees: false,
+            next: at,
+        };
+    }
+    if !fits(s, at, &starts, places) {
+        return Replayed {
+            group,
+            agrees: false,
+            next,
+        };
+    }
+    Replayed {
+        group,
+        agrees: case_agrees(s, at, &starts, places),
+        next,
+    }
+}

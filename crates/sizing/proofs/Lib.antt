@@ -1,0 +1,4 @@
+pub mod Sums
+pub mod Measured
+pub mod Additions
+pub mod Answers

@@ -1,0 +1,35 @@
+use Prim.Native.Nat.{_+_, _<_, _-_}
+use native.Mathlib.Omega.{arith}
+use lib.ListN.{length}
+use denote.Ref.{now}
+use Rattle.model.proofs.Bound.{flag-upper}
+use Rattle.sizing.proofs.Measured.{measured, acc-is, uppers-is, jerk-is}
+use borrow.Author.Needs.{needs}
+use Rattle.sizing.proofs.measure.Statement.{statement}
+use Rattle.sizing.proofs.measure.Tie as tie
+
+pub measure-spec : {M : Type 1} → statement M
+measure-spec =
+    tie.close
+    (tie.spec
+    (λ c. omega (arith, (c .before .before .before .before .pre)))
+    (λ c. omega (arith, (c .before .before .before .before .pre)))
+    (λ c. omega (arith, (c .before .before .before .before .pre)))
+    (λ c κs. omega (arith, (c .before .before .before .before .pre)))
+    (λ c. omega (arith, (c .before .before .before .before .before .pre)))
+    (λ c κs. omega (arith, (c .before .before .before .before .before .pre), (c .sums-inside .ensures)))
+    (λ c κs. search needs)
+    (λ c κs. search needs)
+    (λ c. let a = (c .before .before .before .before .before .before .before .before .args) in omega (arith, (c .before .end-upper .ensures), (c .end-upper2 .ensures), flag-upper (a .ends .n0) (a .start .maximum), flag-upper (a .ends .n1) (a .end .maximum)))
+    (λ c. let a = (c .before .before .before .before .before .before .before .before .before .args) in omega (arith, (c .before .before .before .before .sums-inside .ensures), (c .before .before .end-upper .ensures), (c .before .end-upper2 .ensures), flag-upper (a .ends .n0) (a .start .maximum), flag-upper (a .ends .n1) (a .end .maximum)))
+    (λ c κs. search needs)
+    (λ c κs. search needs)
+    (λ c. omega (arith, (c .before .flag-of .ensures), (c .flag-of2 .ensures)))
+    (λ c. omega (arith, (c .before .before .before .before .before .before .before .before .before .before .before .pre)))
+    (λ c κs. search needs)
+    (λ c. omega (arith, (c .before .before .before .before .before .before .before .before .before .before .before .before .pre), (c .at-least-one .ensures)))
+    (λ c κs. search needs)
+    (λ c. omega (arith, (c .before .before .before .before .before .before .before .before .before .before .before .before .before .pre), (c .before .at-least-one .ensures), (c .at-least-one2 .ensures)))
+    (λ c. omega (arith, (c .before .before .before .before .before .before .before .before .before .before .before .before .before .pre)))
+    (λ c. omega (arith, (c .before .before .before .before .before .before .before .before .before .before .before .before .before .pre)))
+    (λ c. let a = (c .before .before .before .before .before .before .before .before .before .before .before .before .before .args) in let g = now (a .grid) in let span : a .ends .n0 + a .ends .n1 < length g - 1 = omega (arith, (c .before .before .before .before .before .before .before .before .before .before .before .before .before .pre)) in (measured (record { grid = g; N0 = a .ends .n0; N1 = a .ends .n1 }) span (a .d) (record { start = a .start; end = a .end; amax = now (a .amax) }) (now (a .acc-rows)) (now (a .jerk-rows)) (c .before .before .before .flag-of .ensures) (c .before .before .flag-of2 .ensures) (c .before .at-least-one .ensures) (c .at-least-one2 .ensures) (uppers-is (record { grid = g; N0 = a .ends .n0; N1 = a .ends .n1 }) span (record { start = a .start; end = a .end; amax = now (a .amax) }) (c .before .before .before .before .before .before .end-upper .ensures) (c .before .before .before .before .before .end-upper2 .ensures) (c .before .before .before .before .before .before .before .before .sums-inside .ensures .0)) (acc-is (record { grid = g; N0 = a .ends .n0; N1 = a .ends .n1 }) span (now (a .acc-rows)) (c .before .before .before .before .before .before .before .before .sums-inside .ensures .1)) (jerk-is (record { grid = g; N0 = a .ends .n0; N1 = a .ends .n1 }) span (now (a .jerk-rows)) (c .before .before .before .before .before .before .before .before .sums-inside .ensures .2) (c .before .before .before .before .before .before .before .jerk-inside .ensures .0)), (omega (arith, (c .before .before .before .before .before .before .before .before .before .before .before .before .before .pre)), omega (arith, (c .before .before .before .before .before .before .before .before .before .before .before .before .before .pre)), omega (arith, (c .before .before .before .before .before .before .before .before .before .before .before .before .before .pre)), omega (arith, (c .before .before .before .flag-of .ensures), (c .before .before .flag-of2 .ensures)), omega (arith, (c .before .before .before .before .before .before .before .before .before .before .before .before .before .pre), (c .before .at-least-one .ensures), (c .at-least-one2 .ensures)), omega (arith, (c .before .before .before .before .before .before .before .before .sums-inside .ensures), (c .before .before .before .before .before .before .end-upper .ensures), (c .before .before .before .before .before .end-upper2 .ensures), flag-upper (a .ends .n0) (a .start .maximum), flag-upper (a .ends .n1) (a .end .maximum)), omega (arith, (c .before .before .before .before .before .before .before .before .sums-inside .ensures)), omega (arith, (c .before .before .before .before .before .before .before .jerk-inside .ensures))))))

@@ -1,0 +1,201 @@
+//! Times the library against the reference: `benchmark [rounds]`.
+//!
+//! n = 4096, d = 6, six acceleration and six jerk rows at each station, one
+//! objective of each kind. Both sides get the same inputs in the same run, call
+//! by call in turn, after their output was found equal bit for bit.
+
+use copp3_assembly::{Assembly, Boundary, Bounds, Objective, Part, Problem};
+use problems::rng::Rng;
+use reference::sample::Sample;
+use reference::{Assembled, Reserve, copp3_socp_core};
+use std::env;
+use std::hint::black_box;
+use std::time::{Duration, Instant};
+
+const N: usize = 4096;
+const D: usize = 6;
+const ROWS: usize = 6;
+
+/// The problem, with everyday numbers and one stationary interval at each end.
+fn sample() -> Sample {
+    let mut rng = Rng::new(13);
+    let mut numbers = |len: usize| -> Vec<f64> { (0..len).map(|_| 0.1 + rng.unit()).collect() };
+    let stations = N + 1;
+    let mut sample = Sample::plain(N, (1, 1), D);
+    let mut s = 0.0;
+    for (position, step) in sample.grid.iter_mut().zip(numbers(stations)) {
+        s += step;
+        *position = s;
+    }
+    sample.rows = [vec![ROWS as u32; stations], vec![ROWS as u32; stations]];
+    for table in 3..=9 {
+        *sample.table_mut(table) = numbers(ROWS * stations);
+    }
+    *sample.table_mut(2) = numbers(stations);
+    *sample.table_mut(10) = numbers(stations);
+    for table in 11..=13 {
+        *sample.table_mut(table) = numbers(D * stations);
+    }
+    let (scales, alpha, beta) = (numbers(D), numbers(stations), numbers(stations));
+    sample
+        .with_time(1.0)
+        .with_thermal(0.5, &scales)
+        .with_variation(0.25, &scales)
+        .with_linear(0.125, &alpha, &beta)
+}
+
+fn objectives(sample: &Sample) -> Vec<Objective> {
+    use reference::Objective as Plain;
+    let part = |part: reference::Part| Part {
+        start: part.start,
+        len: part.len,
+    };
+    let convert = |objective: &Plain| match *objective {
+        Plain::Time(weight) => Objective::Time { weight },
+        Plain::ThermalEnergy(weight, list) => Objective::ThermalEnergy {
+            weight,
+            scales: part(list),
+        },
+        Plain::TotalVariationTorque(weight, list) => Objective::TotalVariationTorque {
+            weight,
+            scales: part(list),
+        },
+        Plain::Linear(weight, alpha, beta) => Objective::Linear {
+            weight,
+            alpha: part(alpha),
+            beta: part(beta),
+        },
+    };
+    sample.objectives.iter().map(convert).collect()
+}
+
+fn problem<'a>(sample: &'a Sample, objectives: &'a [Objective]) -> Problem<'a> {
+    let p = sample.problem();
+    Problem {
+        boundary: Boundary::default(),
+        start: Bounds::default(),
+        end: Bounds::default(),
+        d: p.d,
+        n0: p.num_stationary.0,
+        n1: p.num_stationary.1,
+        objectives,
+        grid: p.grid,
+        acc_rows: p.acc_rows,
+        jerk_rows: p.jerk_rows,
+        amax: p.amax,
+        acc_a: p.acc_a,
+        acc_b: p.acc_b,
+        acc_max: p.acc_max,
+        jerk_a: p.jerk_a,
+        jerk_b: p.jerk_b,
+        jerk_c: p.jerk_c,
+        jerk_max: p.jerk_max,
+        thermal: p.thermal,
+        torque_a: p.torque_a,
+        torque_b: p.torque_b,
+        torque_g: p.torque_g,
+        start_roots: p.start_roots,
+        end_roots: p.end_roots,
+        pool: p.pool,
+    }
+}
+
+fn bits(numbers: &[f64]) -> impl Iterator<Item = u64> + '_ {
+    numbers.iter().map(|number| number.to_bits())
+}
+
+fn same(found: &Assembly, expected: &Assembled) -> bool {
+    found.rows == expected.row
+        && found.columns == expected.col
+        && bits(&found.values).eq(bits(&expected.val))
+        && bits(&found.right).eq(bits(&expected.b))
+        && found.kinds == expected.cones.kinds
+        && found.dimensions == expected.cones.dims
+        && bits(&found.cost).eq(bits(&expected.q_object))
+}
+
+fn clear(out: &mut Assembly) {
+    out.rows.fill(0);
+    out.columns.fill(0);
+    out.values.fill(0.0);
+    out.right.fill(0.0);
+    out.kinds.fill(0);
+    out.dimensions.fill(0);
+    out.cost.fill(0.0);
+}
+
+fn median(times: &mut [Duration]) -> Duration {
+    times.sort();
+    times[times.len() / 2]
+}
+
+/// What is timed, in the order in which a round runs it.
+const NAMES: [&str; 7] = [
+    "reference, room reserved as published",
+    "reference, nothing reserved",
+    "reference, nothing reserved, with all refusals",
+    "library, buffers reused, not cleared",
+    "library, buffers reused, cleared first (clearing timed)",
+    "library, sized, then into fresh vectors",
+    "library, sizing alone",
+];
+
+fn main() {
+    let rounds: usize = env::args()
+        .nth(1)
+        .and_then(|text| text.parse().ok())
+        .unwrap_or(101);
+    let sample = sample();
+    let lent = sample.problem();
+    let objectives = objectives(&sample);
+    let problem = problem(&sample, &objectives);
+    let expected = copp3_socp_core(&lent, Reserve::Nothing).expect("feasible bounds");
+    let mut out = copp3_assembly::assemble(&problem).expect("an accepted problem");
+    assert!(same(&out, &expected), "library and reference differ");
+    println!("n = {N}, d = {D}, {ROWS} + {ROWS} rows per station, one objective of each kind");
+    println!("{:?}, same bits on both sides", expected.counts());
+
+    let mut times = vec![Vec::with_capacity(rounds); NAMES.len()];
+    for _ in 0..rounds {
+        for (which, times) in times.iter_mut().enumerate() {
+            let begin = Instant::now();
+            match which {
+                0 => keep(copp3_socp_core(&lent, Reserve::AsPublished), begin, times),
+                1 => keep(copp3_socp_core(&lent, Reserve::Nothing), begin, times),
+                2 => keep(reference::assemble(&lent, &[usize::MAX; 7]), begin, times),
+                3 => keep(
+                    copp3_assembly::assemble_into(&problem, &mut out.buffers()),
+                    begin,
+                    times,
+                ),
+                4 => {
+                    clear(black_box(&mut out));
+                    let answer = copp3_assembly::assemble_into(&problem, &mut out.buffers());
+                    keep(answer, begin, times);
+                }
+                5 => keep(copp3_assembly::assemble(&problem), begin, times),
+                _ => keep(copp3_assembly::size(&problem), begin, times),
+            }
+        }
+    }
+    report(&mut times, rounds);
+}
+
+/// Stops the clock before the result is dropped.
+fn keep<T, E>(result: Result<T, E>, begin: Instant, times: &mut Vec<Duration>) {
+    times.push(begin.elapsed());
+    assert!(black_box(result).is_ok());
+}
+
+fn report(times: &mut [Vec<Duration>], rounds: usize) {
+    println!("medians of {rounds} interleaved rounds; ratio to the first line");
+    let base = median(&mut times[0].clone());
+    for (name, times) in NAMES.iter().zip(times) {
+        let middle = median(times);
+        println!(
+            "{name:<56} {:>9.3} ms  {:>6.2}",
+            middle.as_secs_f64() * 1e3,
+            middle.as_secs_f64() / base.as_secs_f64()
+        );
+    }
+}

@@ -1,0 +1,4 @@
+//! Seeded random problems for the comparison, the benchmark and the sample list.
+
+pub mod generate;
+pub mod rng;

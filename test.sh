@@ -1,0 +1,8 @@
+#!/bin/sh
+# The tests: the comparison with the Rust and the C example over the static library, then the Rattle gate.
+set -eu
+cd "$(dirname "$0")"
+rt staticlib copp3_c
+(cd rust && cargo test --release)
+sh c/check.sh
+rt ci
