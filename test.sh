@@ -3,6 +3,6 @@
 set -eu
 cd "$(dirname "$0")"
 rt staticlib copp3_c
-(cd rust && cargo test --release)
+(cd rust && cargo test --release && cargo run --release -q -p vectors -- ../crates/replay/stdin check)
 sh c/check.sh
 rt ci

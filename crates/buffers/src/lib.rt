@@ -38,19 +38,19 @@ fn store(xs: &mut [u32], at: usize, x: usize)
     }
 }
 
-fn store_float(xs: &mut [f64], at: usize, x: f64)
-    ensures { λ _. ⌜ now (xs .exit) ≡ set (now (xs .entry)) at x ⌝ }
+fn store_float(ys: &mut [f64], at: usize, x: f64)
+    ensures { λ _. ⌜ now (ys .exit) ≡ set (now (ys .entry)) at x ⌝ }
 {
-    if at < xs.len() {
-        xs[at] = x;
+    if at < ys.len() {
+        ys[at] = x;
     }
 }
 
-fn store_byte(xs: &mut [u8], at: usize, x: u8)
-    ensures { λ _. ⌜ now (xs .exit) ≡ set (now (xs .entry)) at x ⌝ }
+fn store_byte(zs: &mut [u8], at: usize, x: u8)
+    ensures { λ _. ⌜ now (zs .exit) ≡ set (now (zs .entry)) at x ⌝ }
 {
-    if at < xs.len() {
-        xs[at] = x;
+    if at < zs.len() {
+        zs[at] = x;
     }
 }
 

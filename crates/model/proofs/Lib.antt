@@ -11,6 +11,7 @@ pub mod Whole
 pub mod InCone
 pub mod Bound
 pub mod Passes
+pub mod Ready
 pub mod Usable
 pub mod Fits
 pub mod Program

@@ -12,7 +12,7 @@ use lib.Dec.{ltb, eqb}
 use lib.Ieee.{nan}
 use borrow.Author.Tests.{ltb-false, eqb-true, not-false}
 use Rattle.model.specs.Problem.{Problem, objectives, n, some, isThermal, isTorque, isLinear}
-pub use Rattle.model.specs.Usable.{Listed, TorqueTables, ThermalTables, RootTables, Ready, Counting, CountingWith, Usable}
+pub use Rattle.model.proofs.Ready.{Listed, TorqueTables, ThermalTables, RootTables, Ready, Counting, CountingWith, Usable}
 use Rattle.model.specs.Verdicts.{lowest, itself}
 use Rattle.model.specs.Refusals.{refusal, gridRefusal, setupRefusal, tablesRefusal, objectivesRefusal, listsRefusal, scalesRefusal, listRefusal}
 use Rattle.model.specs.declared.Verdict.the-variants.{Accepted}

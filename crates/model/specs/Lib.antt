@@ -10,6 +10,5 @@ pub mod Objectives
 pub mod Assembled
 pub mod Counts
 pub mod Answers
-pub mod Usable
 pub mod Conic
 pub mod Ledger

@@ -54,7 +54,10 @@ fn print(title: &str, answer: Result<Assembly, Refusal>) {
     );
     let mut row = 0;
     for (kind, dimension) in out.cones() {
-        println!("  {kind:?} cone of {dimension}");
+        match kind {
+            Some(kind) => println!("  {kind:?} cone of {dimension}"),
+            None => println!("  unknown cone of {dimension}"),
+        }
         for _ in 0..dimension {
             print!("    row {row}:");
             for i in (0..out.rows.len()).filter(|&i| out.rows[i] == row) {
