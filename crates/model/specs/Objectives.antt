@@ -78,6 +78,7 @@ module _ (q : Path) where
         }
 
     -- TotalVariationTorque: the two rows of joint i. First a positive end with the moving station k and the resting station z, then the step from k to k + 1
+    -- The right sides have the Rust's sign, which is wrong: the rows bound the change of the a and b parts less the change of the gravity part (docs/DIFFERENCES.md)
     unfoldable pub endTorqueRows : List Float → ℕ → ℕ → ℕ → ℕ → List Band
     endTorqueRows scales t k z i =
         let a = torqueA scales k i in
