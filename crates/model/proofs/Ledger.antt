@@ -2,7 +2,7 @@
 -- each as a computed fact about the definitions.
 use mathlib.Core.Path.{_≡_, refl}
 use mathlib.Core.List.{List, [], _∷_, _++_, map}
-use lib.ListN.{replicate}
+use lib.ListN.{replicate, take, drop}
 use lib.Ieee.{Float, neg}
 use lib.Ieee
 use Rattle.model.specs.Numbers.{+0, +1, +2, +3, +4, +5, +6, half, +∞}
@@ -17,7 +17,7 @@ use Rattle.model.specs.Refusals
 use Rattle.model.specs.Standard
 use Rattle.model.specs.Objectives.{timeBlock, thermalBlock}
 use Rattle.model.specs.Objectives
-use Rattle.model.specs.Assembled.{coneKinds, coneDimensions, cost, listLengths}
+use Rattle.model.specs.Assembled.{columnNumbers, coneKinds, coneDimensions, cost, listLengths}
 use Rattle.model.specs.Assembled
 use Rattle.model.specs.Counts
 use Rattle.model.specs.Answers.{sizing, outcome, told}
@@ -52,6 +52,11 @@ caseA-dimensions = refl
 pub caseA-cost : cost caseA ≡ replicate 7 +0 ++ (+1 ∷ [])
 unfolding everything
 caseA-cost = refl
+
+-- case M's jerk rows, by their columns (a is 0 to 2, b is 3 to 5): "the backward group unless k=N0, then the forward group unless k=n−N1"
+pub caseM-jerk : take 12 (drop 23 (columnNumbers (given +0 (+0 ∷ +1 ∷ +2 ∷ []) 0 0 1 (Time +1 ∷ []) (replicate 3 +∞) 1))) ≡ 0 ∷ 3 ∷ 4 ∷ 1 ∷ 3 ∷ 4 ∷ 1 ∷ 4 ∷ 5 ∷ 2 ∷ 4 ∷ 5 ∷ []
+unfolding everything
+caseM-jerk = refl
 
 -- ---- the traps
 
