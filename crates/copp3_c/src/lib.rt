@@ -6,7 +6,7 @@ ghost use Prim.Native.Nat.{min};
 ghost use Rattle.copp3_c.specs.Exported.{objectiveOf, kindRefusal, answerRecord, sizingAfter, assemblyAfter, exported, exportedAs};
 ghost use Rattle.model.specs.Problem.{problem};
 ghost use Rattle.model.specs.Answers.{told};
-ghost use Rattle.assembly.specs.Program.{buffers};
+ghost use Rattle.passes.specs.Program.{buffers};
 use model::Answer;
 use model::Job;
 use model::Objective;

@@ -2,8 +2,8 @@ use denote.Ref.{now}
 use Rattle.model.specs.Problem.{problem}
 use Rattle.model.proofs.Usable.{usable, usable-sizes}
 use Rattle.model.proofs.Counted.{counted}
-use Rattle.assembly.specs.Program.{buffers}
-use Rattle.assembly.proofs.Landed.{refused, accepted, done}
+use Rattle.passes.specs.Program.{buffers}
+use Rattle.passes.proofs.Landed.{refused, accepted, done}
 use borrow.Author.Needs.{needs}
 use Rattle.assembly.proofs.assemble.Statement.{statement}
 use Rattle.assembly.proofs.assemble.Tie as tie

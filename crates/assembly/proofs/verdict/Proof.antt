@@ -3,7 +3,7 @@ use denote.Ref.{now}
 use Rattle.model.specs.Problem.{problem}
 use Rattle.model.proofs.Usable.{usable, usable-sizes}
 use Rattle.model.proofs.Counted.{counted}
-use Rattle.assembly.proofs.Landed.{stopped, passed}
+use Rattle.passes.proofs.Landed.{stopped, passed}
 use borrow.Author.Needs.{needs}
 use Rattle.assembly.proofs.verdict.Statement.{statement}
 use Rattle.assembly.proofs.verdict.Tie as tie

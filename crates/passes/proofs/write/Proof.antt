@@ -8,10 +8,10 @@ use Rattle.linear.proofs.Cost.{cost-as-columns}
 use Rattle.model.specs.Standard.{standard, root}
 use Rattle.buffers.proofs.Blocks.{built-rows, built-cols, built-vals, built-right, built-kinds, built-dims, built-costs}
 use Rattle.objectives.proofs.Blocks.{built-most}
-use Rattle.assembly.proofs.Whole.{cost-built, cones-built, whole-built}
-use Rattle.assembly.proofs.Accepted.{all-ready, all-fit}
-use Rattle.assembly.proofs.write.Statement.{statement}
-use Rattle.assembly.proofs.write.Tie as tie
+use Rattle.passes.proofs.Whole.{cost-built, cones-built, whole-built}
+use Rattle.passes.proofs.Accepted.{all-ready, all-fit}
+use Rattle.passes.proofs.write.Statement.{statement}
+use Rattle.passes.proofs.write.Tie as tie
 
 returns : tie.Need-returns
 unfolding standard root

@@ -17,7 +17,7 @@ use Rattle.buffers.proofs.Laws.{builds, closed-none, costs-none}
 use Rattle.objectives.specs.Blocks.{together}
 use Rattle.objectives.specs.Input.{lends}
 use Rattle.objectives.proofs.Blocks.{built-then, built-width, built-like, same-all-cones, same-all-cost}
-use Rattle.assembly.specs.Program.{whole}
+use Rattle.passes.specs.Program.{whole}
 
 -- a stage that writes cost alone, and one that writes cones alone, as blocks
 abbrev ofCost : List Float → Block

@@ -1,9 +1,9 @@
 use denote.Ref.{now}
 use Rattle.model.specs.Problem.{problem}
-use Rattle.assembly.proofs.Landed.{landed-tally}
+use Rattle.passes.proofs.Landed.{landed-tally}
 use borrow.Author.Needs.{needs}
-use Rattle.assembly.proofs.dry.Statement.{statement}
-use Rattle.assembly.proofs.dry.Tie as tie
+use Rattle.passes.proofs.dry.Statement.{statement}
+use Rattle.passes.proofs.dry.Tie as tie
 
 pub dry-spec : {M : Type 1} → statement M
 dry-spec =
