@@ -4,10 +4,9 @@ ghost use mathlib.Core.Path.{_≡_};
 ghost use mathlib.Core.Bool.{Bool, not};
 ghost use Rattle.model.specs.Problem.{problem};
 ghost use Rattle.model.specs.Verdicts.{_then_, refuse};
-ghost use Rattle.model.specs.Refusals.{refusal};
-ghost use Rattle.model.specs.Counts.{counts, fourCounts};
-ghost use Rattle.model.specs.Answers.{roomRefusal, finiteRefusal, assembly};
-ghost use Rattle.passes.specs.Program.{buffers, answered};
+ghost use Rattle.model.specs.Counts.{fourCounts};
+ghost use Rattle.model.specs.Answers.{roomRefusal, assembly};
+ghost use Rattle.passes.specs.Program.{buffers, answered, verdictOf};
 use model::Answer;
 use model::FourCounts;
 use model::Job;
@@ -57,7 +56,7 @@ fn verdict(
     pool: &[f64],
     lengths: [usize; 7],
 ) -> Verdict
-    ensures { λ r. ⌜ r ≡ (refusal (problem job objectives (now (grid .entry)) (now («acc_rows» .entry)) (now («jerk_rows» .entry)) (now (amax .entry)) (now («acc_a» .entry)) (now («acc_b» .entry)) (now («acc_max» .entry)) (now («jerk_a» .entry)) (now («jerk_b» .entry)) (now («jerk_c» .entry)) (now («jerk_max» .entry)) (now (thermal .entry)) (now («torque_a» .entry)) (now («torque_b» .entry)) (now («torque_g» .entry)) (now («start_roots» .entry)) (now («end_roots» .entry)) (now (pool .entry))) then roomRefusal (counts (problem job objectives (now (grid .entry)) (now («acc_rows» .entry)) (now («jerk_rows» .entry)) (now (amax .entry)) (now («acc_a» .entry)) (now («acc_b» .entry)) (now («acc_max» .entry)) (now («jerk_a» .entry)) (now («jerk_b» .entry)) (now («jerk_c» .entry)) (now («jerk_max» .entry)) (now (thermal .entry)) (now («torque_a» .entry)) (now («torque_b» .entry)) (now («torque_g» .entry)) (now («start_roots» .entry)) (now («end_roots» .entry)) (now (pool .entry)))) lengths then finiteRefusal (problem job objectives (now (grid .entry)) (now («acc_rows» .entry)) (now («jerk_rows» .entry)) (now (amax .entry)) (now («acc_a» .entry)) (now («acc_b» .entry)) (now («acc_max» .entry)) (now («jerk_a» .entry)) (now («jerk_b» .entry)) (now («jerk_c» .entry)) (now («jerk_max» .entry)) (now (thermal .entry)) (now («torque_a» .entry)) (now («torque_b» .entry)) (now («torque_g» .entry)) (now («start_roots» .entry)) (now («end_roots» .entry)) (now (pool .entry)))) ⌝ }
+    ensures { λ r. ⌜ r ≡ verdictOf (problem job objectives (now (grid .entry)) (now («acc_rows» .entry)) (now («jerk_rows» .entry)) (now (amax .entry)) (now («acc_a» .entry)) (now («acc_b» .entry)) (now («acc_max» .entry)) (now («jerk_a» .entry)) (now («jerk_b» .entry)) (now («jerk_c» .entry)) (now («jerk_max» .entry)) (now (thermal .entry)) (now («torque_a» .entry)) (now («torque_b» .entry)) (now («torque_g» .entry)) (now («start_roots» .entry)) (now («end_roots» .entry)) (now (pool .entry))) lengths ⌝ }
 {
     let v = checks::check(
         job,
@@ -174,10 +173,7 @@ pub fn assemble(
         lengths,
     );
     if let Verdict::Refused { number, place } = v {
-        return Answer::Refusal {
-            number: number,
-            place: place,
-        };
+        return Answer::Refusal { number, place };
     }
     let t = write(
         job,

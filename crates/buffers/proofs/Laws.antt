@@ -6,12 +6,8 @@ use Prim.Native.Nat.{ℕ, zero, suc, _+_, _*_, _-_, _≤_, _<_}
 use native.Mathlib.Nat.{add-zero, zero-add, add-suc, suc-add, add-assoc, sub-self, le-refl, zero-mul, mul-zero, mul-suc, suc-mul, add-mul, mul-one, mul-pos}
 use native.Mathlib.Numerals.{add-one}
 use native.Mathlib.Omega.{arith}
-use lib.Ieee.{Float, nan, inf, fin, binary64, sub, add, neg, eq, sum, round, up, down, ofBits}
-use lib.Ieee.Scale.{round-same}
-use lib.Pow.{pow-pos}
-use lib.IntN.{ℤ, pos, negsuc}
+use lib.Ieee.{Float}
 use borrow.Author.Needs.{needs}
-use borrow.Author.Tests.{le-ltb}
 use lib.ListN.{length, set, replicate, length-append, length-map}
 use lib.Seq.{sets, length-sets}
 use Rattle.model.specs.Numbers.{finite}
@@ -139,27 +135,6 @@ join-cones r xs ys =
     λ i. chunk
     ((sym (entries-append r (bandsOf xs) (bandsOf ys)) ∙ ap (entriesFrom r) (sym (joined-append (λ c. c .bands) xs ys))) i)
     ((sym (right-append (bandsOf xs) (bandsOf ys)) ∙ ap rightSides (sym (joined-append (λ c. c .bands) xs ys))) i) (xs ++ ys) []
-
--- ---- the test of finiteness
-
-round-zero : (s : Bool) (c : ℕ) → 0 < c → round binary64 s 0 c ≡ round binary64 s 0 1
-round-zero s c h = round-same binary64 s 0 c 0 1 h (omega arith) (sym (zero-mul c))
-
-sum-self : (s : Bool) (a c : ℕ) → 0 < c → sum binary64 s a (not s) a c ≡ fin false 0 (pos 0)
-unfolding sum round
-sum-self true a c h = rw (le-ltb a a (le-refl a), sub-self) (round-zero false c h)
-sum-self false a c h = rw (le-ltb a a (le-refl a), sub-self) (round-zero false c h)
-
-down-pos : (e : ℤ) → 0 < down e
-down-pos (pos k) = omega arith
-down-pos (negsuc k) = pow-pos (suc k)
-
-pub self-less : (x : Float) → eq (sub binary64 x x) (ofBits binary64 0) ≡ finite x
-unfolding eq sub ofBits
-self-less nan = refl
-self-less (inf true) = refl
-self-less (inf false) = refl
-self-less (fin s m e) = ap (λ y. eq y (ofBits binary64 0)) (sum-self s (m * up e * down e) (down e * down e) (mul-pos (down-pos e) (down-pos e)))
 
 -- ---- the leaves
 

@@ -15,12 +15,7 @@ use model::Ends;
 use model::Row;
 use model::Tally;
 use model::Term;
-
-pub fn is_finite(x: f64) -> bool
-    ensures { λ r. ⌜ r ≡ finite x ⌝ }
-{
-    x - x == 0.0
-}
+use numbers::is_finite;
 
 pub fn both(a: bool, b: bool) -> bool
     ensures { λ r. ⌜ r ≡ (a && b) ⌝ }

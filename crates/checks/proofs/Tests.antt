@@ -10,22 +10,8 @@ use lib.Ieee.{Float, nan, inf, fin, lt}
 use borrow.Author.Tests.{ltb-true, ltb-false, leb-true, leb-false}
 use native.Mathlib.Omega.{arith}
 use native.Mathlib.Numerals.{add-one}
-use Rattle.model.specs.Numbers.{at, finite, unusable}
+use Rattle.model.specs.Numbers.{at, unusable}
 use Rattle.model.specs.Lists.{part, total}
-
-pub below : (x : Float) → lt x (inf false) ≡ true → lt (inf true) x ≡ finite x
-unfolding lt
-below nan e = refl
-below (inf true) e = refl
-below (inf false) e = cc
-below (fin s m k) e = refl
-
-pub not-below : (x : Float) → lt x (inf false) ≡ false → lt x (inf false) ≡ finite x
-unfolding lt
-not-below nan e = refl
-not-below (inf true) e = cc
-not-below (inf false) e = refl
-not-below (fin s m k) e = cc
 
 pub not-above : (x : Float) → not (lt (inf true) x) ≡ unusable x
 unfolding lt

@@ -17,14 +17,7 @@ use model::Ends;
 use model::Job;
 use model::Objective;
 use model::Verdict;
-
-// Neither NaN nor infinite.
-pub fn is_finite(x: f64) -> bool
-    ensures { λ r. ⌜ r ≡ finite x ⌝ }
-{
-    let top = 1.0 / 0.0;
-    x < top && -top < x
-}
+use numbers::is_finite;
 
 // NaN or minus infinity.
 fn is_unusable(x: f64) -> bool

@@ -18,6 +18,7 @@ use model::Column;
 use model::Ends;
 use model::Tally;
 use model::Term;
+use numbers::is_finite;
 
 // The upper row of station k, where the bound is finite.
 fn upper(
@@ -34,7 +35,7 @@ fn upper(
     requires { ⌜ Room t 1 × Sized (now s) e × (k < length (now s)) ⌝ }
     ensures { λ r. ⌜ wrote t rows cols vals right r (upperRow (path (now (s .entry)) e) k bound) 1 ⌝ }
 {
-    if !buffers::is_finite(bound) {
+    if !is_finite(bound) {
         return t;
     }
     let p = Term {

@@ -10,13 +10,14 @@ use native.Mathlib.Omega.{arith}
 use borrow.Author.Tests.{eq-eqb, ne-eqb}
 use lib.Dec.{eqb}
 use lib.Ieee.{Float, nan}
-use lib.ListN.{length, take, drop, length-take, length-drop, set, length-append, length-set, List·getD-append}
+use lib.ListN.{length, take, drop, set, length-append, length-set, List·getD-append}
 use lib.Seq.{getD-set-same, getD-set-other}
 use Rattle.model.specs.Numbers.{at, _⊕_}
 use Rattle.model.specs.Lists.{list, joined, part}
 use Rattle.model.specs.Program.{Cell, Block, charged}
 use Rattle.model.specs.Assembled.{costAfter}
 use Rattle.model.proofs.All.{All, all-joined, all-imp}
+use Rattle.buffers.proofs.Parts.{cancel}
 use Rattle.linear.specs.Charges.{chargedAt, Charged, linearCharges}
 use Rattle.model.specs.declared.Ends.{Ends}
 use Rattle.linear.proofs.Charges.{charged-append, charged-past}
@@ -92,13 +93,7 @@ cost-columns q (b ∷ bs) h =
     ∙ ap (λ (k : ℕ). list g 0 (length q) ++ list f k (length (b .cost))) (zero-add (length q)) ∙ ap (λ (l : List Float). list g 0 (length q) ++ l) two in
     cost-columns (p ++ b .cost) bs wide ∙ ap (λ (l : List Float). l ++ joined (λ x. x .cost) bs) split ∙ append-assoc (list g 0 (length q)) (b .cost) (joined (λ x. x .cost) bs)
 
--- a part of the pool, as the code takes it
-cancel : (a k : ℕ) → a + k - a ≡ k
-cancel a k = omega arith
-
-pub part-length : (l : List Float) (a k : ℕ) {m : ℕ} → a + k ≤ length l → k ≡ m → length (take (a + k - a) (drop a l)) ≡ m
-part-length l a k h e = let x = length-take (a + k - a) (drop a l) in let y = length-drop a l in let z = cancel a k in omega arith
-
+-- parts of the pool, as the code takes them
 module _ {y x : Float} {c : ℕ} (s : List Float) (e : Ends) (r0 r1 : List Float) (w : Float) where
   pub charged-parts : (pool : List Float) (a al b bl : ℕ)
       → Charged y x c (linearCharges s e r0 r1 w (take (a + al - a) (drop a pool)) (take (b + bl - b) (drop b pool))) → Charged y x c (linearCharges s e r0 r1 w (part pool a al) (part pool b bl))

@@ -6,8 +6,8 @@ use native.Mathlib.Nat.{add-zero, zero-add, add-assoc, mul-suc}
 use native.Mathlib.Numerals.{add-one}
 use native.Mathlib.Omega.{arith}
 use lib.Ieee.{Float, nan}
-use lib.ListN.{length, take, drop, getD, length-append, length-take, length-drop}
-use Rattle.model.specs.Lists.{list, joined, part}
+use lib.ListN.{length, take, getD, length-append}
+use Rattle.model.specs.Lists.{list, joined}
 use Rattle.model.specs.Program.{Band, Cone, Block, nothing, dimension, entriesFrom, rightSides}
 use Rattle.model.specs.Problem.{Problem}
 use Rattle.model.specs.Objectives.{objectiveBlock, linearBlock}
@@ -120,16 +120,6 @@ module _ (p : Problem) {o : Objective} {w : Float} {start len : ℕ} (h : Ready 
 
   pub ready-torque : o ≡ TotalVariationTorque w start len → Joints p start len
   ready-torque e = subst (λ (z : Objective). Ready p z) e h
-
--- a part of the pool, as the code takes it
-cancel : (a k : ℕ) → a + k - a ≡ k
-cancel a k = omega arith
-
-pub part-of : (l : List Float) (a k : ℕ) → take (a + k - a) (drop a l) ≡ part l a k
-part-of l a k = ap (λ (z : ℕ). take z (drop a l)) (cancel a k)
-
-pub part-length : (l : List Float) (a k : ℕ) {m : ℕ} → a + k ≤ length l → k ≡ m → length (take (a + k - a) (drop a l)) ≡ m
-part-length l a k h e = let x = length-take (a + k - a) (drop a l) in let y = length-drop a l in let z = cancel a k in omega arith
 
 pub linear-cones : (p : Problem) (c : ℕ) {o : Objective} {w : Float} {a al b bl : ℕ} → o ≡ Linear w a al b bl → objectiveBlock p c o .cones ≡ []
 unfolding objectiveBlock linearBlock

@@ -23,7 +23,7 @@ use Rattle.model.specs.declared.Tally.{Tally}
 use Rattle.model.proofs.Passes.{then-passes}
 use Rattle.model.proofs.Room.{Enough, room-passes}
 use Rattle.buffers.specs.Buffers.{state, emit, Built}
-use Rattle.passes.specs.Program.{whole, start, finished, buffers, answered}
+use Rattle.passes.specs.Program.{whole, start, finished, buffers, answered, verdictOf}
 
 sets-front {ℓ} : {A : Type ℓ} (l vs : List A) → length vs ≤ length l → sets l 0 vs ≡ vs ++ drop (length vs) l
 sets-front l vs h = sets-eq vs l 0 (rw zero-add h) ∙ ap (λ k. vs ++ drop k l) (zero-add (length vs))
@@ -62,10 +62,6 @@ module _ (p : Problem) {R C : List ℕ} {W H : List Float} {K D : List ℕ} {Q :
         }
 
 -- ---- the answers
-
--- every refusal
-abbrev verdictOf : Problem → List ℕ → Verdict
-verdictOf p have = refusal p then roomRefusal (counts p) have then finiteRefusal p
 
 module _ (p : Problem) (have : List ℕ) {v : Verdict} (e : v ≡ refusal p) where
   pub stopped : {r k : ℕ} → v ≡ Refused r k → v ≡ verdictOf p have

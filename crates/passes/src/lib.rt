@@ -6,16 +6,14 @@ ghost use Rattle.model.specs.Refusals.{refusal};
 ghost use Rattle.model.specs.declared.Verdict.the-variants.{Accepted};
 ghost use Rattle.buffers.specs.Lent.{built};
 ghost use Rattle.passes.specs.Program.{whole, start, finished};
+use blocks::objective_blocks;
+use blocks::standard_block;
 use model::Job;
 use model::Objective;
 use model::Tally;
-use objectives::clarabel_objective_copp3;
-use stages::linear_by_value as linear;
-use stages::root_stage_by_value as root_stage;
-use stages::standard_rows_by_value as standard_rows;
 
-// Every stage, from nothing. The buffers have the letters of crate buffers' `built`. A store past a buffer's end is left out, so the dry pass is this too.
-// 8388608 is more than the four stages' bounds together, for at most 4097 stations.
+// Both halves, from nothing. The buffers have the letters of crate buffers' `built`. A store past a buffer's end is left out, so the dry pass is this too.
+// 8388608 is more than the halves' bounds together, for at most 4097 stations.
 pub fn write(
     job: Job,
     os: [Objective; 16],
@@ -48,9 +46,6 @@ pub fn write(
     requires { ⌜ refusal (problem job os (now s) (now ca) (now cj) (now amax) (now aa) (now ab) (now ah) (now ja) (now jb) (now jc) (now jh) (now y) (now ta) (now tb) (now tg) (now r0) (now r1) (now pool)) ≡ Accepted ⌝ }
     ensures { λ t. ⌜ built start r c v h k m q t (whole (problem job os (now (s .entry)) (now (ca .entry)) (now (cj .entry)) (now (amax .entry)) (now (aa .entry)) (now (ab .entry)) (now (ah .entry)) (now (ja .entry)) (now (jb .entry)) (now (jc .entry)) (now (jh .entry)) (now (y .entry)) (now (ta .entry)) (now (tb .entry)) (now (tg .entry)) (now (r0 .entry)) (now (r1 .entry)) (now (pool .entry)))) 8388608 ⌝ }
 {
-    let e = job.ends;
-    let n = job.count;
-    let d = job.d;
     let t = Tally {
         entries: 0,
         rows: 0,
@@ -58,8 +53,8 @@ pub fn write(
         columns: 0,
         finite: true,
     };
-    let t = linear(t, q, s, e, r0, r1, pool, os, n);
-    let t = standard_rows(
+    let e = job.ends;
+    let t = standard_block(
         t,
         r,
         c,
@@ -67,24 +62,27 @@ pub fn write(
         h,
         k,
         m,
+        q,
+        job,
+        os,
         s,
-        e,
-        amax,
         ca,
+        cj,
+        amax,
         aa,
         ab,
         ah,
-        cj,
         ja,
         jb,
         jc,
         jh,
-        job.boundary,
-        job.start,
-        job.end,
+        r0,
+        r1,
+        pool,
     );
-    let t = root_stage(t, r, c, v, h, k, m, q, s, e, os, n);
-    clarabel_objective_copp3(t, r, c, v, h, k, m, q, s, e, y, ta, tb, tg, d, pool, os, n)
+    let d = job.d;
+    let n = job.count;
+    objective_blocks(t, r, c, v, h, k, m, q, s, e, y, ta, tb, tg, d, pool, os, n)
 }
 
 // What a pass comes to: the four counts, and whether every number to be written is finite. It runs over buffers of one place.

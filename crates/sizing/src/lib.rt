@@ -14,7 +14,6 @@ ghost use lib.Ieee.{Float};
 ghost use Rattle.checks.specs.Fitting.{Fitting};
 ghost use Rattle.sizing.specs.Measures.{measures, measuresOf, Bounded, Few};
 use checks::first_of;
-use checks::is_finite;
 use checks::refuse_if;
 use model::Answer;
 use model::Bounds;
@@ -23,6 +22,7 @@ use model::FourCounts;
 use model::Job;
 use model::Objective;
 use model::Verdict;
+use numbers::is_finite;
 
 // The numbers of which the counts are made: d, n, m, p, L, u, A' and J'.
 pub struct Measures {

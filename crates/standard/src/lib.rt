@@ -23,10 +23,10 @@ use model::Tally;
 // All inequalities.
 fn inequalities(
     t: Tally,
-    rows: &mut [u32],
-    cols: &mut [u32],
-    vals: &mut [f64],
-    right: &mut [f64],
+    r: &mut [u32],
+    c: &mut [u32],
+    v: &mut [f64],
+    h: &mut [f64],
     s: &[f64],
     e: Ends,
     amax: &[f64],
@@ -43,47 +43,11 @@ fn inequalities(
     hi: Bounds,
 ) -> Tally
     requires { ⌜ Room t (772 * length (now s) + 4) × Sized (now s) e × (length (now amax) ≡ length (now s)) × AccSized (now s) (now counts) (now aa) (now ab) (now ah) × Few (now counts) × JerkSized (now s) (now turns) (now ja) (now jb) (now jc) (now jh) × Few (now turns) ⌝ }
-    ensures { λ r. ⌜ wrote t rows cols vals right r (inequalities (path (now (s .entry)) e) (limits lo hi (now (amax .entry))) (accOf (now (counts .entry)) (now (aa .entry)) (now (ab .entry)) (now (ah .entry))) (jerkOf (now (turns .entry)) (now (ja .entry)) (now (jb .entry)) (now (jc .entry)) (now (jh .entry)))) (772 * length (now (s .entry)) + 4) ⌝ }
+    ensures { λ t′. ⌜ wrote t r c v h t′ (inequalities (path (now (s .entry)) e) (limits lo hi (now (amax .entry))) (accOf (now (counts .entry)) (now (aa .entry)) (now (ab .entry)) (now (ah .entry))) (jerkOf (now (turns .entry)) (now (ja .entry)) (now (jb .entry)) (now (jc .entry)) (now (jh .entry)))) (772 * length (now (s .entry)) + 4) ⌝ }
 {
-    let u = first_order::clarabel_1order_constraint_topp3(
-        t,
-        rows,
-        cols,
-        vals,
-        right,
-        s,
-        e,
-        amax,
-        lo,
-        hi,
-    );
-    let u = acc_jerk::clarabel_2order_constraint_topp3(
-        u,
-        rows,
-        cols,
-        vals,
-        right,
-        s,
-        e,
-        counts,
-        aa,
-        ab,
-        ah,
-    );
-    acc_jerk::clarabel_3order_constraint_topp3(
-        u,
-        rows,
-        cols,
-        vals,
-        right,
-        s,
-        e,
-        turns,
-        ja,
-        jb,
-        jc,
-        jh,
-    )
+    let u = first_order::clarabel_1order_constraint_topp3(t, r, c, v, h, s, e, amax, lo, hi);
+    let u = acc_jerk::clarabel_2order_constraint_topp3(u, r, c, v, h, s, e, counts, aa, ab, ah);
+    acc_jerk::clarabel_3order_constraint_topp3(u, r, c, v, h, s, e, turns, ja, jb, jc, jh)
 }
 
 // The block.

@@ -1,8 +1,11 @@
-//! Times the library against the reference: `benchmark [rounds]`.
+//! Times the library against the reference: `benchmark [rounds] [jobs]`.
 //!
 //! n = 4096, d = 6, six acceleration and six jerk rows at each station, one
-//! objective of each kind. Both sides get the same inputs in the same run, call
-//! by call in turn, after their output was found equal bit for bit.
+//! objective of each kind. Both sides get the same inputs in the same run, after
+//! their output was found equal bit for bit. Each is timed over a run of `jobs`
+//! calls, by default the two hundred jobs of a shift, one run of each in turn;
+//! with one job, they alternate call by call and find each other's data in the
+//! caches.
 
 use copp3_assembly::{Assembly, Boundary, Bounds, Objective, Part, Problem};
 use problems::rng::Rng;
@@ -130,7 +133,8 @@ fn median(times: &mut [Duration]) -> Duration {
 }
 
 /// What is timed, in the order in which a round runs it.
-const NAMES: [&str; 7] = [
+const NAMES: [&str; 8] = [
+    "published files over stand-ins for what they import",
     "reference, room reserved as published",
     "reference, nothing reserved",
     "reference, nothing reserved, with all refusals",
@@ -140,11 +144,16 @@ const NAMES: [&str; 7] = [
     "library, sizing alone",
 ];
 
-fn main() {
-    let rounds: usize = env::args()
-        .nth(1)
+fn argument(place: usize, default: usize) -> usize {
+    env::args()
+        .nth(place)
         .and_then(|text| text.parse().ok())
-        .unwrap_or(101);
+        .unwrap_or(default)
+}
+
+fn main() {
+    let rounds = argument(1, 11);
+    let jobs = argument(2, 200);
     let sample = sample();
     let lent = sample.problem();
     let objectives = objectives(&sample);
@@ -159,36 +168,38 @@ fn main() {
     for _ in 0..rounds {
         for (which, times) in times.iter_mut().enumerate() {
             let begin = Instant::now();
-            match which {
-                0 => keep(copp3_socp_core(&lent, Reserve::AsPublished), begin, times),
-                1 => keep(copp3_socp_core(&lent, Reserve::Nothing), begin, times),
-                2 => keep(reference::assemble(&lent, &[usize::MAX; 7]), begin, times),
-                3 => keep(
-                    copp3_assembly::assemble_into(&problem, &mut out.buffers()),
-                    begin,
-                    times,
-                ),
-                4 => {
-                    clear(black_box(&mut out));
-                    let answer = copp3_assembly::assemble_into(&problem, &mut out.buffers());
-                    keep(answer, begin, times);
-                }
-                5 => keep(copp3_assembly::assemble(&problem), begin, times),
-                _ => keep(copp3_assembly::size(&problem), begin, times),
+            for _ in 0..jobs {
+                job(which, &lent, &problem, &mut out);
             }
+            times.push(begin.elapsed() / jobs as u32);
         }
     }
-    report(&mut times, rounds);
+    report(&mut times, rounds, jobs);
 }
 
-/// Stops the clock before the result is dropped.
-fn keep<T, E>(result: Result<T, E>, begin: Instant, times: &mut Vec<Duration>) {
-    times.push(begin.elapsed());
+/// One call of what NAMES says, its result dropped.
+fn job(which: usize, lent: &reference::Problem, problem: &Problem, out: &mut Assembly) {
+    match which {
+        0 => keep(published::published(lent)),
+        1 => keep(copp3_socp_core(lent, Reserve::AsPublished)),
+        2 => keep(copp3_socp_core(lent, Reserve::Nothing)),
+        3 => keep(reference::assemble(lent, &[usize::MAX; 7])),
+        4 => keep(copp3_assembly::assemble_into(problem, &mut out.buffers())),
+        5 => {
+            clear(black_box(out));
+            keep(copp3_assembly::assemble_into(problem, &mut out.buffers()));
+        }
+        6 => keep(copp3_assembly::assemble(problem)),
+        _ => keep(copp3_assembly::size(problem)),
+    }
+}
+
+fn keep<T, E>(result: Result<T, E>) {
     assert!(black_box(result).is_ok());
 }
 
-fn report(times: &mut [Vec<Duration>], rounds: usize) {
-    println!("medians of {rounds} interleaved rounds; ratio to the first line");
+fn report(times: &mut [Vec<Duration>], rounds: usize, jobs: usize) {
+    println!("a job's time, medians of {rounds} runs of {jobs} jobs; ratio to the first line");
     let base = median(&mut times[0].clone());
     for (name, times) in NAMES.iter().zip(times) {
         let middle = median(times);

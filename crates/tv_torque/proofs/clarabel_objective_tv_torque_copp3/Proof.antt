@@ -7,7 +7,7 @@ use Rattle.model.specs.Objectives.{torqueBlock}
 use Rattle.model.specs.Problem.{ends, m}
 use Rattle.buffers.proofs.Laws.{closes, builds, list-same}
 use Rattle.torque.proofs.Facts.{at-most}
-use Rattle.buffers.proofs.Blocks.{built-cost}
+use Rattle.buffers.proofs.Blocks.{built-cost, built-rows, built-cols, built-vals, built-right, built-kinds, built-dims, built-costs}
 use borrow.Author.Needs.{needs}
 use Rattle.tv_torque.proofs.clarabel_objective_tv_torque_copp3.Statement.{statement}
 use Rattle.tv_torque.proofs.clarabel_objective_tv_torque_copp3.Tie as tie
@@ -30,11 +30,11 @@ clarabel-objective-tv-torque-copp3-spec =
     (λ c. search needs)
     (λ c κs. omega (arith, (c .before .before .before .before .before .before .before .before .before .before .before .before .before .before .before .before .before .before .before .before .before .before .before .before .before .before .before .before .before .before .before .before .pre), (c .before .before .before .before .before .before .before .before .before .before .before .before .bands .ensures .moves)))
     (λ c κs. omega (arith, (c .before .before .before .before .before .before .before .before .before .before .before .before .before .before .before .before .before .before .before .before .before .before .before .before .before .before .before .before .before .before .before .before .before .before .before .before .before .before .pre), (c .before .before .before .before .before .before .before .before .before .before .before .before .before .before .before .before .before .before .before .before .before .before .before .before .before .positive-ends .ensures), (c .before .before .before .before .before .before .before .before .before .before .before .before .before .before .before .before .before .before .bands .ensures .moves), (c .before .before .before .before .before .put-cone .ensures), at-most (c .before .before .before .before .before .before .before .before .before .before .before .before .before .before .before .before .before .before .before .before .before .before .before .before .before .before .before .before .before .before .before .before .before .before .before .before .before .before .args .d) ((c .before .before .before .before .before .before .before .before .before .before .before .before .before .before .before .before .before .before .before .before .before .before .before .before .before .positive-ends .result) + (length (now (c .before .before .before .before .before .before .before .before .before .before .before .before .before .before .before .before .before .before .before .before .before .before .before .before .before .before .before .before .before .before .before .before .before .before .before .before .before .before .args .s)) - 1 - (c .before .before .before .before .before .before .before .before .before .before .before .before .before .before .before .before .before .before .before .before .before .before .before .before .before .before .before .before .before .before .before .before .before .before .before .before .before .before .args .e .n0) - (c .before .before .before .before .before .before .before .before .before .before .before .before .before .before .before .before .before .before .before .before .before .before .before .before .before .before .before .before .before .before .before .before .before .before .before .before .before .before .args .e .n1))) (omega (arith, (c .before .before .before .before .before .before .before .before .before .before .before .before .before .before .before .before .before .before .before .before .before .before .before .before .before .before .before .before .before .before .before .before .before .before .before .before .before .before .pre)))))
-    (λ c. search needs)
-    (λ c. search needs)
-    (λ c. search needs)
-    (λ c. search needs)
-    (λ c. search needs)
-    (λ c. search needs)
-    (λ c. search needs)
+    (λ c. built-rows (returns c))
+    (λ c. built-cols (returns c))
+    (λ c. built-vals (returns c))
+    (λ c. built-right (returns c))
+    (λ c. built-kinds (returns c))
+    (λ c. built-dims (returns c))
+    (λ c. built-costs (returns c))
     returns)
