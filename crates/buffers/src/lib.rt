@@ -3,7 +3,7 @@
 ghost use mathlib.Core.Path.{_≡_};
 ghost use mathlib.Core.Bool.{Bool, true, false, _&&_};
 ghost use mathlib.Core.List.{List, [], _∷_};
-ghost use Prim.Native.Nat.{ℕ, _+_, _-_, _*_, _^_, _<_, _≤_, min, max};
+ghost use Prim.Native.Nat.{ℕ, _+_, _-_, _*_, _^_, _<_, _≤_, min};
 ghost use lib.Ieee.{Float, nan};
 ghost use lib.ListN.{getD, length, set};
 ghost use Rattle.model.specs.Numbers.{finite, at, _⊖_, _⊗_, +0, −1};
@@ -15,6 +15,7 @@ use model::Ends;
 use model::Row;
 use model::Tally;
 use model::Term;
+use numbers::flag;
 use numbers::is_finite;
 
 pub fn both(a: bool, b: bool) -> bool
@@ -261,25 +262,11 @@ pub fn positive(
     u
 }
 
-// 1 for a positive count, and 0 for 0.
-pub fn flag(k: usize) -> usize
-    ensures { λ r. ⌜ r ≡ min k 1 ⌝ }
-{
-    if k == 0 { 0 } else { 1 }
-}
-
 // How many ends are positive.
 pub fn positive_ends(e: Ends) -> usize
     ensures { λ r. ⌜ r ≡ min (e .n0) 1 + min (e .n1) 1 ⌝ }
 {
     flag(e.n0) + flag(e.n1)
-}
-
-// The larger of two.
-pub fn larger(a: usize, b: usize) -> usize
-    ensures { λ r. ⌜ r ≡ max a b ⌝ }
-{
-    if a < b { b } else { a }
 }
 
 // The spacing from station k to the next.

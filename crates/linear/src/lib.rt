@@ -83,7 +83,7 @@ fn end_part(
     if c.at != at {
         return x;
     }
-    let count = buffers::larger(stationary, 1) - 1;
+    let count = numbers::larger(stationary, 1) - 1;
     end_sum(x, s, e, roots, alpha, beta, w, at, z, count)
 }
 

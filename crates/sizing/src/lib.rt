@@ -1,12 +1,12 @@
 // Sizing: every refusal tested before 19, or the four counts by document 01's formulas. And the room test, refusal 19.
 ghost use mathlib.Core.Path.{_≡_};
 ghost use mathlib.Core.List.{List};
-ghost use Prim.Native.Nat.{_+_, _-_, _*_, _≤_, _<_, max};
+ghost use Prim.Native.Nat.{_+_, _-_, _*_, _≤_, _<_};
 ghost use lib.Dec.{ltb};
 ghost use lib.ListN.{length, take, getD};
 ghost use Rattle.model.specs.Numbers.{at};
 ghost use Rattle.model.specs.Lists.{sumOver};
-ghost use Rattle.model.specs.Problem.{Problem, problem, some, usesRoot, flag, hasRoot};
+ghost use Rattle.model.specs.Problem.{Problem, problem, flag, hasRoot};
 ghost use Rattle.model.specs.Verdicts.{refuse};
 ghost use Rattle.model.specs.Counts.{upper, _plus_, standardCounts, rootCounts, objectiveCounts, objectivesCounts, counts};
 ghost use Rattle.model.specs.Answers.{told, sizing, roomRefusal};
@@ -22,7 +22,10 @@ use model::FourCounts;
 use model::Job;
 use model::Objective;
 use model::Verdict;
+use numbers::flag;
 use numbers::is_finite;
+use numbers::larger;
+use objective_kinds::has_root;
 
 // The numbers of which the counts are made: d, n, m, p, L, u, A' and J'.
 pub struct Measures {
@@ -48,19 +51,6 @@ fn upper_of(x: f64) -> usize
     ensures { λ r. ⌜ r ≡ upper x ⌝ }
 {
     if is_finite(x) { 1 } else { 0 }
-}
-
-// 1 for a positive count.
-fn flag_of(count: usize) -> usize
-    ensures { λ r. ⌜ r ≡ flag count ⌝ }
-{
-    if count == 0 { 0 } else { 1 }
-}
-
-fn at_least_one(count: usize) -> usize
-    ensures { λ r. ⌜ r ≡ max count 1 ⌝ }
-{
-    if count == 0 { 1 } else { count }
 }
 
 // 1 for a positive end with a finite maximum.
@@ -120,8 +110,8 @@ fn measure(
     let i = sums_inside(amax, acc_rows, jerk_rows, n0 + 1, n - n1);
     let jerk = jerk_inside(jerk_rows, n0, n - n1, i.jerk);
     let uppers = end_upper(n0, start) + end_upper(n1, end) + i.uppers;
-    let p = flag_of(n0) + flag_of(n1);
-    let l = n + 1 - at_least_one(n0) - at_least_one(n1);
+    let p = flag(n0) + flag(n1);
+    let l = n + 1 - larger(n0, 1) - larger(n1, 1);
     Measures {
         d,
         n,
@@ -268,46 +258,6 @@ fn objectives_counts(s: Measures, objectives: [Objective; 16], count: usize) -> 
         i += 1;
     }
     t
-}
-
-fn uses_root(o: Objective) -> bool
-    ensures { λ r. ⌜ r ≡ usesRoot o ⌝ }
-{
-    match o {
-        Objective::Time(_) => true,
-        Objective::ThermalEnergy {
-            weight: _,
-            start: _,
-            len: _,
-        } => true,
-        Objective::TotalVariationTorque {
-            weight: _,
-            start: _,
-            len: _,
-        } => false,
-        Objective::Linear {
-            weight: _,
-            alpha: _,
-            alpha_len: _,
-            beta: _,
-            beta_len: _,
-        } => false,
-    }
-}
-
-// Whether there is a root stage.
-fn has_root(objectives: [Objective; 16], count: usize) -> bool
-    requires { ⌜ count ≤ 16 ⌝ }
-    ensures { λ r. ⌜ r ≡ some usesRoot (take count objectives) ⌝ }
-{
-    let mut root = false;
-    let mut i = 0;
-    while i < count {
-        let o = objectives[i];
-        root = root | uses_root(o);
-        i += 1;
-    }
-    root
 }
 
 // The four counts, from the numbers that they are made of.

@@ -17,6 +17,7 @@ use model::Ends;
 use model::Objective;
 use model::Tally;
 use model::Term;
+use objective_kinds::has_root;
 
 // The rows of a root cone.
 fn root_rows(
@@ -32,7 +33,7 @@ fn root_rows(
     requires { ⌜ Room t 3 × Sized (now s) e × (max (e .n0) 1 + j < length (now s)) ⌝ }
     ensures { λ r. ⌜ wrote t rows cols vals right r (rootBands (path (now (s .entry)) e) j) 3 ⌝ }
 {
-    let k = buffers::larger(e.n0, 1) + j;
+    let k = numbers::larger(e.n0, 1) + j;
     let p = Term {
         col: Column { at: k },
         v: -1.0,
@@ -117,44 +118,6 @@ fn root_stage(
     buffers::cost_same(w, cost, 0.0, count)
 }
 
-// Whether an objective uses the root stage.
-fn is_rooted(o: Objective) -> bool
-    ensures { λ r. ⌜ r ≡ usesRoot o ⌝ }
-{
-    match o {
-        Objective::Time(_) => true,
-        Objective::ThermalEnergy {
-            weight: _,
-            start: _,
-            len: _,
-        } => true,
-        Objective::TotalVariationTorque {
-            weight: _,
-            start: _,
-            len: _,
-        } => false,
-        Objective::Linear {
-            weight: _,
-            alpha: _,
-            alpha_len: _,
-            beta: _,
-            beta_len: _,
-        } => false,
-    }
-}
-
-// Whether any of the first count objectives uses it.
-pub fn uses_root(os: [Objective; 16], count: usize) -> bool
-    requires { ⌜ count ≤ 16 ⌝ }
-    ensures { λ r. ⌜ r ≡ some usesRoot (take count os) ⌝ }
-{
-    let mut found = false;
-    for i in 0..count {
-        found = found | is_rooted(os[i]);
-    }
-    found
-}
-
 // The root stage, if any of the first count objectives uses it; else nothing.
 pub fn clarabel_sqrt_a_copp3(
     t: Tally,
@@ -173,7 +136,7 @@ pub fn clarabel_sqrt_a_copp3(
     requires { ⌜ RoomAll t (4 * length (now s) + 1) × Sized (now s) e × (count ≤ 16) ⌝ }
     ensures { λ r. ⌜ built t rows cols vals right kinds dims cost r (cond (some usesRoot (take count os)) (rootStage (path (now (s .entry)) e)) nothing) (4 * length (now (s .entry)) + 1) ⌝ }
 {
-    if uses_root(os, count) {
+    if has_root(os, count) {
         return root_stage(t, rows, cols, vals, right, kinds, dims, cost, s, e);
     }
     t

@@ -360,7 +360,7 @@ fn end_part(
     }
     let last = s.len() - 1;
     let own = Column {
-        at: col.at + buffers::flag(e.n0),
+        at: col.at + numbers::flag(e.n0),
     };
     let j = xi::length_xi(s, e) - 1;
     end_cone(
@@ -408,7 +408,7 @@ fn moving_cones(
 {
     let count = xi::length_xi(s, e);
     let p = buffers::positive_ends(e);
-    let first = buffers::larger(e.n0, 1);
+    let first = numbers::larger(e.n0, 1);
     let mut u = t;
     for j in 0..count {
         let own = Column { at: col.at + p + j };
@@ -566,7 +566,7 @@ fn moving_costs(t: Tally, cost: &mut [f64], s: &[f64], e: Ends, weights: &[f64],
     ensures { λ r. ⌜ fillsCost t cost r (λ j. +4 ⊗ w ⊗ at (now (weights .entry)) (skip (path (now (s .entry)) e) + j)) 0 (L (path (now (s .entry)) e)) ⌝ }
 {
     let count = xi::length_xi(s, e);
-    let first = buffers::larger(e.n0, 1);
+    let first = numbers::larger(e.n0, 1);
     let four = 4.0 * w;
     let mut u = t;
     for j in 0..count {

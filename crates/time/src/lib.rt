@@ -120,7 +120,7 @@ fn time_costs(t: Tally, cost: &mut [f64], s: &[f64], e: Ends, w: f64) -> Tally
     ensures { λ r. ⌜ fillsCost t cost r (λ j. w ⊗ timeWeight (path (now (s .entry)) e) (skip (path (now (s .entry)) e) + j)) 0 (L (path (now (s .entry)) e)) ⌝ }
 {
     let count = xi::length_xi(s, e);
-    let first = buffers::larger(e.n0, 1);
+    let first = numbers::larger(e.n0, 1);
     let mut u = t;
     for i in 0..count {
         u = buffers::put_cost(u, cost, w * get_weight_a_topp3(s, e, first + i));

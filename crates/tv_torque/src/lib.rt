@@ -171,7 +171,7 @@ fn end_part(
     }
     let last = s.len() - 1;
     let own = Column {
-        at: col.at + d * buffers::flag(e.n0),
+        at: col.at + d * numbers::flag(e.n0),
     };
     end_joints(
         t,

@@ -10,5 +10,5 @@ pub fn length_xi(s: &[f64], e: Ends) -> usize
     requires { ⌜ Sized (now s) e ⌝ }
     ensures { λ r. ⌜ r ≡ L (path (now (s .entry)) e) ⌝ }
 {
-    s.len() - 1 + 1 - buffers::larger(e.n0, 1) - buffers::larger(e.n1, 1)
+    s.len() - 1 + 1 - numbers::larger(e.n0, 1) - numbers::larger(e.n1, 1)
 }

@@ -7,8 +7,9 @@
 //! with one job, they alternate call by call and find each other's data in the
 //! caches.
 
-use copp3_assembly::{Assembly, Boundary, Bounds, Objective, Part, Problem};
-use problems::rng::Rng;
+use comparison::case::Case;
+use comparison::rng::Rng;
+use copp3_assembly::{Assembly, Problem};
 use reference::sample::Sample;
 use reference::{Assembled, Reserve, copp3_socp_core};
 use std::env;
@@ -45,62 +46,6 @@ fn sample() -> Sample {
         .with_thermal(0.5, &scales)
         .with_variation(0.25, &scales)
         .with_linear(0.125, &alpha, &beta)
-}
-
-fn objectives(sample: &Sample) -> Vec<Objective> {
-    use reference::Objective as Plain;
-    let part = |part: reference::Part| Part {
-        start: part.start,
-        len: part.len,
-    };
-    let convert = |objective: &Plain| match *objective {
-        Plain::Time(weight) => Objective::Time { weight },
-        Plain::ThermalEnergy(weight, list) => Objective::ThermalEnergy {
-            weight,
-            scales: part(list),
-        },
-        Plain::TotalVariationTorque(weight, list) => Objective::TotalVariationTorque {
-            weight,
-            scales: part(list),
-        },
-        Plain::Linear(weight, alpha, beta) => Objective::Linear {
-            weight,
-            alpha: part(alpha),
-            beta: part(beta),
-        },
-    };
-    sample.objectives.iter().map(convert).collect()
-}
-
-fn problem<'a>(sample: &'a Sample, objectives: &'a [Objective]) -> Problem<'a> {
-    let p = sample.problem();
-    Problem {
-        boundary: Boundary::default(),
-        start: Bounds::default(),
-        end: Bounds::default(),
-        d: p.d,
-        n0: p.num_stationary.0,
-        n1: p.num_stationary.1,
-        objectives,
-        grid: p.grid,
-        acc_rows: p.acc_rows,
-        jerk_rows: p.jerk_rows,
-        amax: p.amax,
-        acc_a: p.acc_a,
-        acc_b: p.acc_b,
-        acc_max: p.acc_max,
-        jerk_a: p.jerk_a,
-        jerk_b: p.jerk_b,
-        jerk_c: p.jerk_c,
-        jerk_max: p.jerk_max,
-        thermal: p.thermal,
-        torque_a: p.torque_a,
-        torque_b: p.torque_b,
-        torque_g: p.torque_g,
-        start_roots: p.start_roots,
-        end_roots: p.end_roots,
-        pool: p.pool,
-    }
 }
 
 fn bits(numbers: &[f64]) -> impl Iterator<Item = u64> + '_ {
@@ -154,10 +99,10 @@ fn argument(place: usize, default: usize) -> usize {
 fn main() {
     let rounds = argument(1, 11);
     let jobs = argument(2, 200);
-    let sample = sample();
-    let lent = sample.problem();
-    let objectives = objectives(&sample);
-    let problem = problem(&sample, &objectives);
+    let case = Case::new(sample());
+    let lent = case.sample.problem();
+    let objectives = case.ordinary().expect("objectives of known kinds");
+    let problem = case.problem(&objectives);
     let expected = copp3_socp_core(&lent, Reserve::Nothing).expect("feasible bounds");
     let mut out = copp3_assembly::assemble(&problem).expect("an accepted problem");
     assert!(same(&out, &expected), "library and reference differ");

@@ -17,5 +17,5 @@ clarabel-sqrt-a-copp3-spec =
     (λ c. built-kinds (c .before .before .before .before .before .before .before .before .before .before .before .before .before .before .root-stage .ensures))
     (λ c. built-dims (c .before .before .before .before .before .before .before .before .before .before .before .before .before .before .root-stage .ensures))
     (λ c. built-costs (c .before .before .before .before .before .before .before .before .before .before .before .before .before .before .root-stage .ensures))
-    (λ c. rw (← (c .before .before .before .before .before .before .before .before .before .before .before .before .before .before .before .before .before .before .before .before .before .before .before .uses-root .ensures), (c .before .before .before .before .before .before .before .before .before .before .before .before .before .before .before .before .before .before .before .before .before .before .if1 .taken)) (c .before .before .before .before .before .before .before .before .before .before .before .before .before .before .root-stage .ensures))
-    (λ c. rw (← (c .before .uses-root .ensures), (c .if1 .left)) built-skip))
+    (λ c. rw (← (c .before .before .before .before .before .before .before .before .before .before .before .before .before .before .before .before .before .before .before .before .before .before .before .has-root .ensures), (c .before .before .before .before .before .before .before .before .before .before .before .before .before .before .before .before .before .before .before .before .before .before .if1 .taken)) (c .before .before .before .before .before .before .before .before .before .before .before .before .before .before .root-stage .ensures))
+    (λ c. rw (← (c .before .has-root .ensures), (c .if1 .left)) built-skip))

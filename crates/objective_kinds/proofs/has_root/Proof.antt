@@ -3,10 +3,10 @@ use mathlib.Core.Path.{_≡_, refl}
 use native.Mathlib.Omega.{arith}
 use lib.ListN.{take}
 use Rattle.model.specs.Problem.{some, usesRoot}
-use Rattle.sqrt_a.proofs.Scan.{some-next, some-end}
+use Rattle.objective_kinds.proofs.Scan.{some-next, some-end}
 use borrow.Author.Needs.{needs}
-use Rattle.sqrt_a.proofs.uses_root.Statement.{statement}
-use Rattle.sqrt_a.proofs.uses_root.Tie as tie
+use Rattle.objective_kinds.proofs.has_root.Statement.{statement}
+use Rattle.objective_kinds.proofs.has_root.Tie as tie
 
 abbrev Inv-loop : tie.InvT-loop
 Inv-loop count os found₀ i₀ found i = (i ≤ count) × (found ≡ some usesRoot (take i os))
@@ -14,8 +14,8 @@ Inv-loop count os found₀ i₀ found i = (i ≤ count) × (found ≡ some usesR
 abbrev μ-loop : tie.MeasureT-loop
 μ-loop count os found₀ i₀ found i = count - i
 
-pub uses-root-spec : {M : Type 1} → statement M
-uses-root-spec =
+pub has-root-spec : {M : Type 1} → statement M
+has-root-spec =
     tie.close
     (tie.spec
     Inv-loop
@@ -26,5 +26,5 @@ uses-root-spec =
     (λ c κs. search needs)
     (λ c. omega (arith, (c .before .before .before .before .pre), (c .before .before .loop-test)))
     (λ c. omega (arith, (c .before .before .loop-test)))
-    (λ c. (omega (arith, (c .before .before .loop-test)), some-next usesRoot _ _ (c .before .before .before .loop .i) (omega (arith, (c .before .before .before .before .good) .0, (c .before .before .before .before .pre), (c .before .before .loop-test))) ((c .before .before .before .loop .inv) .1) (c .is-rooted .ensures)))
+    (λ c. (omega (arith, (c .before .before .loop-test)), some-next usesRoot _ _ (c .before .before .before .loop .i) (omega (arith, (c .before .before .before .before .good) .0, (c .before .before .before .before .pre), (c .before .before .loop-test))) ((c .before .before .before .loop .inv) .1) (c .uses-root .ensures)))
     (λ c. some-end usesRoot _ ((c .before .loop .inv) .1) ((c .before .loop .inv) .0) (c .loop-test .left)))

@@ -1,0 +1,45 @@
+// Which kinds of objectives a job has.
+
+ghost use mathlib.Core.Path.{_≡_};
+ghost use Prim.Native.Nat.{_≤_};
+ghost use lib.ListN.{take};
+ghost use Rattle.model.specs.Problem.{some, usesRoot};
+use model::Objective;
+
+// Whether an objective uses the root stage.
+pub fn uses_root(o: Objective) -> bool
+    ensures { λ r. ⌜ r ≡ usesRoot o ⌝ }
+{
+    match o {
+        Objective::Time(_) => true,
+        Objective::ThermalEnergy {
+            weight: _,
+            start: _,
+            len: _,
+        } => true,
+        Objective::TotalVariationTorque {
+            weight: _,
+            start: _,
+            len: _,
+        } => false,
+        Objective::Linear {
+            weight: _,
+            alpha: _,
+            alpha_len: _,
+            beta: _,
+            beta_len: _,
+        } => false,
+    }
+}
+
+// Whether any of the first count objectives uses it: then there is a root stage.
+pub fn has_root(os: [Objective; 16], count: usize) -> bool
+    requires { ⌜ count ≤ 16 ⌝ }
+    ensures { λ r. ⌜ r ≡ some usesRoot (take count os) ⌝ }
+{
+    let mut found = false;
+    for i in 0..count {
+        found = found | uses_root(os[i]);
+    }
+    found
+}
