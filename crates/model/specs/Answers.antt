@@ -89,6 +89,9 @@ unfoldable pub result : Verdict → Problem → Buffers → Result
 result Accepted p b = record { told = outcome Accepted (counts p); buffers = written p b }
 result (Refused r k) p b = record { told = outcome (Refused r k) (counts p); buffers = b }
 
--- checks go in rising number: 1 to 18, then 19, then 20
+-- checks go in rising number: 1 to 18, then 19 for buffers of these lengths, then 20
+abbrev pub verdictOf : Problem → List ℕ → Verdict
+verdictOf p have = refusal p then roomRefusal (counts p) have then finiteRefusal p
+
 unfoldable pub assembly : Problem → Buffers → Result
-assembly p b = result (refusal p then roomRefusal (counts p) (lengths b) then finiteRefusal p) p b
+assembly p b = result (verdictOf p (lengths b)) p b

@@ -7,13 +7,9 @@ use lib.ListN.{length}
 use Rattle.model.specs.Problem.{Problem}
 use Rattle.model.specs.Program.{Block}
 use Rattle.model.specs.Assembled.{cones, entries, values, rightSide, cost, allFinite}
-use Rattle.model.specs.Counts.{counts}
-use Rattle.model.specs.Verdicts.{_then_}
-use Rattle.model.specs.Refusals.{refusal}
-use Rattle.model.specs.Answers.{Buffers, Result, told, roomRefusal, finiteRefusal}
+use Rattle.model.specs.Answers.{Buffers, Result, told}
 use Rattle.model.specs.declared.Answer.{Answer}
 use Rattle.model.specs.declared.Tally.{Tally}
-use Rattle.model.specs.declared.Verdict.{Verdict}
 
 -- all cones and the cost of all columns; what objectives charge is in the cost
 abbrev pub whole : Problem → Block
@@ -35,10 +31,6 @@ finished p =
 
 abbrev pub buffers : List ℕ → List ℕ → List Float → List Float → List ℕ → List ℕ → List Float → Buffers
 buffers r c v h k d q = record { rows = r; columns = c; values = v; right = h; kinds = k; dimensions = d; cost = q }
-
--- every refusal: 1 to 18, then 19 for buffers of these lengths, then 20
-abbrev pub verdictOf : Problem → List ℕ → Verdict
-verdictOf p have = refusal p then roomRefusal (counts p) have then finiteRefusal p
 
 abbrev pub answered : Answer → Buffers → Result
 answered a b = record { told = told a; buffers = b }
