@@ -21,7 +21,7 @@ use model::Tally;
 use model::Term;
 
 // Where station k's part of the tables begins.
-fn offset(counts: &[u32], k: usize) -> usize
+pub fn offset(counts: &[u32], k: usize) -> usize
     requires { ⌜ (k ≤ length (now counts)) × (total (now counts) < 2 ^ 64) ⌝ }
     ensures { λ r. ⌜ r ≡ total (take k (now (counts .entry))) ⌝ }
 {

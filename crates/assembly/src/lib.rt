@@ -1,34 +1,26 @@
-// The assembly: checks, room, a dry pass that tests every number, then the writing.
+// The assembly: checks, room, a test of every number, then the writing.
 
 ghost use mathlib.Core.Path.{_≡_};
-ghost use mathlib.Core.Bool.{Bool, not};
+ghost use mathlib.Core.Bool.{not};
 ghost use Rattle.model.specs.Problem.{problem};
 ghost use Rattle.model.specs.Verdicts.{_then_, refuse};
-ghost use Rattle.model.specs.Counts.{fourCounts};
 ghost use Rattle.model.specs.Answers.{roomRefusal, verdictOf, assembly};
 ghost use Rattle.passes.specs.Program.{buffers, answered};
 use model::Answer;
 use model::FourCounts;
 use model::Job;
 use model::Objective;
-use model::Tally;
 use model::Verdict;
-use passes::dry;
+use passes::every_number;
 use passes::write;
 
-// 19, then 20, of what a dry pass comes to.
-fn room_and_finite(found: Tally, lengths: [usize; 7]) -> Verdict
-    ensures { λ r. ⌜ r ≡ (roomRefusal (fourCounts (found .entries) (found .rows) (found .cones) (found .columns)) lengths then refuse 20 0 (not (found .finite))) ⌝ }
+// 19, then 20, of the four counts and of whether every number is finite.
+fn room_and_finite(counts: FourCounts, finite: bool, lengths: [usize; 7]) -> Verdict
+    ensures { λ r. ⌜ r ≡ (roomRefusal counts lengths then refuse 20 0 (not finite)) ⌝ }
 {
-    let needed = FourCounts {
-        entries: found.entries,
-        rows: found.rows,
-        cones: found.cones,
-        columns: found.columns,
-    };
     checks::first_of(
-        sizing::room(needed, lengths),
-        checks::refuse_if(20, 0, !found.finite),
+        sizing::room(counts, lengths),
+        checks::refuse_if(20, 0, !finite),
     )
 }
 
@@ -83,7 +75,8 @@ fn verdict(
     let Verdict::Accepted = v else {
         return v;
     };
-    let t = dry(
+    let counts = sizing::count(job, objectives, grid, acc_rows, jerk_rows, amax);
+    let finite = every_number(
         job,
         objectives,
         grid,
@@ -105,7 +98,7 @@ fn verdict(
         end_roots,
         pool,
     );
-    room_and_finite(t, lengths)
+    room_and_finite(counts, finite, lengths)
 }
 
 // The whole: a refusal with every buffer as it was, or the four counts with the program in the buffers.

@@ -17,7 +17,7 @@ use Rattle.model.specs.Assembled.{allFinite}
 use Rattle.model.proofs.Shape.{heights, right-heights}
 use Rattle.model.proofs.Sums.{length-list}
 use Rattle.model.specs.declared.Tally.{Tally}
-use Rattle.buffers.specs.Buffers.{Chunk, chunk, none, join, bandsOf, ofBands, ofCones, ofBlock, State, state, sound, moved, emit, Adds, Fills, Puts, Rights, FillsRight, PutsRight, Columns, Moves, Wrote, Overs, Lists, PutsCone, Steps, Closed, ClosedList, Costs, PutsCost, FillsCost, Built}
+use Rattle.buffers.specs.Buffers.{Chunk, chunk, none, join, bandsOf, ofBands, ofCones, ofBlock, State, state, moved, emit, Adds, Fills, Puts, Rights, FillsRight, PutsRight, Columns, Moves, Wrote, Overs, Lists, PutsCone, Steps, Closed, ClosedList, Costs, PutsCost, FillsCost, Built}
 
 -- ---- lists
 
@@ -58,31 +58,19 @@ pub all-append : (xs ys : List Float) → allFinite (xs ++ ys) ≡ (allFinite xs
 all-append [] ys = refl
 all-append (x ∷ xs) ys = ap (λ b. finite x && b) (all-append xs ys) ∙ sym (and-assoc (finite x) (allFinite xs) (allFinite ys))
 
-shuffle : (o x u w y v z : Bool) → (o && (x && u && w) && (y && v && z)) ≡ (o && ((x && y) && (u && v) && (w && z)))
-shuffle false x u w y v z = refl
-shuffle true false u w y v z = refl
-shuffle true true false w false v z = refl
-shuffle true true false w true v z = refl
-shuffle true true true true y v z = refl
-shuffle true true true false false v z = refl
-shuffle true true true false true false z = refl
-shuffle true true true false true true z = refl
+-- what follows from false
+abbrev When : Type 0 → Bool → Type 0
+When A true = A
+When A false = Unit {0}
 
-and-true : (b : Bool) → (b && true) ≡ b
-and-true true = refl
-and-true false = refl
+pub never : {A : Type 0} → false ≡ true → A
+never {A} e = subst (When A) e tt
 
 -- ---- one chunk after another
 
 lay {ℓ ℓ′} : {A : Type ℓ} {B : Type ℓ′} (f : A → B) (l : List B) (i : ℕ) (xs ys : List A)
     → sets (sets l i (map f xs)) (i + length xs) (map f ys) ≡ sets l i (map f (xs ++ ys))
 lay f l i xs ys = rw (map-append, sets-append, length-map)
-
-both-finite : (a b : Chunk) (t : Tally) → moved b (moved a t) .finite ≡ moved (join a b) t .finite
-both-finite a b t =
-    rw (map-append, all-append, all-append, all-append)
-    (shuffle (t .finite) (allFinite (map (λ e. e .value) (a .entries))) (allFinite (a .right)) (allFinite (a .cost)) (allFinite (map (λ e. e .value) (b .entries)))
-    (allFinite (b .right)) (allFinite (b .cost)))
 
 further {ℓ} : {A : Type ℓ} (k : ℕ) (xs ys : List A) → k + length xs + length ys ≡ k + length (xs ++ ys)
 further k xs ys = add-assoc k (length xs) (length ys) ∙ ap (λ j. k + j) (sym (length-append xs ys))
@@ -103,7 +91,6 @@ emit-emit a b s =
         rows = further (s .tally .rows) (a .right) (b .right) i;
         cones = further (s .tally .cones) (a .cones) (b .cones) i;
         columns = further (s .tally .columns) (a .cost) (b .cost) i;
-        finite = both-finite a b (s .tally) i;
       };
     }
 
@@ -123,7 +110,6 @@ emit-none s =
         rows = add-zero (s .tally .rows) i;
         cones = add-zero (s .tally .cones) i;
         columns = add-zero (s .tally .columns) i;
-        finite = and-true (s .tally .finite) i;
       };
     }
 
@@ -138,26 +124,11 @@ join-cones r xs ys =
 
 -- ---- the leaves
 
-and-one : (a b : Bool) → (a && b) ≡ (a && (b && true && true && true))
-and-one true true = refl
-and-one true false = refl
-and-one false b = refl
-
-and-two : (a b : Bool) → (a && b) ≡ (a && (true && (b && true) && true))
-and-two true true = refl
-and-two true false = refl
-and-two false b = refl
-
-and-three : (a b : Bool) → (a && b) ≡ (a && (true && true && (b && true)))
-and-three true true = refl
-and-three true false = refl
-and-three false b = refl
-
-pub one-entry : {R C : List ℕ} {W : List Float} {t : Tally} {R′ C′ : List ℕ} {W′ : List Float} {o f : Bool} {r c : ℕ} {v : Float}
-    → R′ ≡ set R (t .entries) r → C′ ≡ set C (t .entries) c → W′ ≡ set W (t .entries) v → o ≡ (t .finite && f) → f ≡ finite v
-    → Puts t R C W (record { entries = t .entries + 1; rows = t .rows; cones = t .cones; columns = t .columns; finite = o }) R′ C′ W′ (entry r (cell c v))
+pub one-entry : {R C : List ℕ} {W : List Float} {t : Tally} {R′ C′ : List ℕ} {W′ : List Float} {r c : ℕ} {v : Float}
+    → R′ ≡ set R (t .entries) r → C′ ≡ set C (t .entries) c → W′ ≡ set W (t .entries) v
+    → Puts t R C W (record { entries = t .entries + 1; rows = t .rows; cones = t .cones; columns = t .columns }) R′ C′ W′ (entry r (cell c v))
 unfolding emit
-one-entry {t} {v} pr pc pv po pf =
+one-entry {t} pr pc pv =
     record {
       adds = record {
         says = λ h k d q i. record {
@@ -173,7 +144,6 @@ one-entry {t} {v} pr pc pv po pf =
             rows = sym (add-zero (t .rows)) i;
             cones = sym (add-zero (t .cones)) i;
             columns = sym (add-zero (t .columns)) i;
-            finite = (po ∙ ap (λ b. t .finite && b) pf ∙ and-one (t .finite) (finite v)) i;
           };
         };
       };
@@ -183,11 +153,11 @@ one-entry {t} {v} pr pc pv po pf =
       columns = refl;
     }
 
-pub one-right : {H : List Float} {t : Tally} {H′ : List Float} {o f : Bool} {v : Float}
-    → H′ ≡ set H (t .rows) v → o ≡ (t .finite && f) → f ≡ finite v
-    → PutsRight t H (record { entries = t .entries; rows = t .rows + 1; cones = t .cones; columns = t .columns; finite = o }) H′ v
+pub one-right : {H : List Float} {t : Tally} {H′ : List Float} {v : Float}
+    → H′ ≡ set H (t .rows) v
+    → PutsRight t H (record { entries = t .entries; rows = t .rows + 1; cones = t .cones; columns = t .columns }) H′ v
 unfolding emit
-one-right {t} {v} ph po pf =
+one-right {t} ph =
     record {
       adds = record {
         says = λ r c w k d q i. record {
@@ -203,7 +173,6 @@ one-right {t} {v} ph po pf =
             rows = t .rows + 1;
             cones = sym (add-zero (t .cones)) i;
             columns = sym (add-zero (t .columns)) i;
-            finite = (po ∙ ap (λ b. t .finite && b) pf ∙ and-two (t .finite) (finite v)) i;
           };
         };
       };
@@ -213,11 +182,11 @@ one-right {t} {v} ph po pf =
       columns = refl;
     }
 
-pub one-cost : {Q : List Float} {t : Tally} {Q′ : List Float} {o f : Bool} {v : Float}
-    → Q′ ≡ set Q (t .columns) v → o ≡ (t .finite && f) → f ≡ finite v
-    → PutsCost t Q (record { entries = t .entries; rows = t .rows; cones = t .cones; columns = t .columns + 1; finite = o }) Q′ v
+pub one-cost : {Q : List Float} {t : Tally} {Q′ : List Float} {v : Float}
+    → Q′ ≡ set Q (t .columns) v
+    → PutsCost t Q (record { entries = t .entries; rows = t .rows; cones = t .cones; columns = t .columns + 1 }) Q′ v
 unfolding emit
-one-cost {t} {v} ph po pf =
+one-cost {t} {v} ph =
     record {
       adds = record {
         says = λ r c w h k d i. record {
@@ -233,7 +202,6 @@ one-cost {t} {v} ph po pf =
             rows = sym (add-zero (t .rows)) i;
             cones = sym (add-zero (t .cones)) i;
             columns = t .columns + 1;
-            finite = (po ∙ ap (λ b. t .finite && b) pf ∙ and-three (t .finite) (finite v)) i;
           };
         };
       };
@@ -244,8 +212,8 @@ one-cost {t} {v} ph po pf =
     }
 
 pub one-cone : {K D : List ℕ} {t : Tally} {K′ D′ : List ℕ} {k d : ℕ} → K′ ≡ set K (t .cones) k → D′ ≡ set D (t .cones) d
-    → PutsCone t K D (record { entries = t .entries; rows = t .rows; cones = t .cones + 1; columns = t .columns; finite = t .finite }) K′ D′ k d
-one-cone pk pd = record { kinds = pk; dims = pd; entries = refl; rows = refl; cones = refl; columns = refl; finite = refl }
+    → PutsCone t K D (record { entries = t .entries; rows = t .rows; cones = t .cones + 1; columns = t .columns }) K′ D′ k d
+one-cone pk pd = record { kinds = pk; dims = pd; entries = refl; rows = refl; cones = refl; columns = refl }
 
 -- ---- entries after entries
 
@@ -569,7 +537,6 @@ module _ {t : Tally} {R C : List ℕ} {W H : List Float} {K D : List ℕ} where
           rows = (g .rows ∙ sym (add-zero (t′ .rows))) i;
           cones = g .cones i;
           columns = (g .columns ∙ sym (add-zero (t′ .columns))) i;
-          finite = (g .finite ∙ sym (and-true (t′ .finite))) i;
         };
       } in
       let m = p .moves in

@@ -1,6 +1,5 @@
 -- What the seven buffers hold, what a writer lays over them, and what writers say of it. What is written is told by crate model's bands, cones and blocks.
 use mathlib.Core.Path.{_≡_}
-use mathlib.Core.Bool.{Bool, true, false, _&&_}
 use mathlib.Core.List.{List, [], _∷_, _++_, map}
 use Prim.Native.Nat.{ℕ, zero, suc, _+_, _*_, _^_, _≤_, _<_}
 use lib.Ieee.{Float}
@@ -8,7 +7,6 @@ use lib.ListN.{length}
 use lib.Seq.{sets}
 use Rattle.model.specs.Lists.{list, over, joined}
 use Rattle.model.specs.Program.{Cell, Band, Cone, Block, Entry, entry, dimension, entriesFrom, rightSides}
-use Rattle.model.specs.Assembled.{allFinite}
 use Rattle.model.specs.declared.Tally.{Tally}
 
 -- what is laid over the buffers: entries, right sides, cones with their dimensions, the cost of new columns
@@ -55,9 +53,6 @@ pub record State : Type 0 where
 abbrev pub state : List ℕ → List ℕ → List Float → List Float → List ℕ → List ℕ → List Float → Tally → State
 state r c v h k d q t = record { rows = r; cols = c; vals = v; right = h; kinds = k; dims = d; cost = q; tally = t }
 
-abbrev pub sound : Chunk → Bool
-sound a = allFinite (map (λ e. e .value) (a .entries)) && allFinite (a .right) && allFinite (a .cost)
-
 abbrev pub moved : Chunk → Tally → Tally
 moved a t =
     record {
@@ -65,7 +60,6 @@ moved a t =
       rows = t .rows + length (a .right);
       cones = t .cones + length (a .cones);
       columns = t .columns + length (a .cost);
-      finite = t .finite && sound a;
     }
 
 -- A chunk laid over the buffers at the tally's places. `sets xs i ys` is xs with ys stored from index i on; what is past the end is left out.
@@ -159,7 +153,6 @@ pub record PutsCone (t : Tally) (k d : List ℕ) (t′ : Tally) (k′ d′ : Lis
   pub rows : t′ .rows ≡ t .rows
   pub cones : t′ .cones ≡ t .cones + 1
   pub columns : t′ .columns ≡ t .columns
-  pub finite : t′ .finite ≡ t .finite
 
 -- as Moves, with at most so many cones as rows
 pub record Steps (t t′ : Tally) (b : ℕ) : Type 0 where

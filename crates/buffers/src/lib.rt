@@ -1,27 +1,34 @@
 // The writers that every stage uses: entries, rows, cones and cost, at the tally's places. A store past a buffer's end is left out.
 
 ghost use mathlib.Core.Path.{_≡_};
-ghost use mathlib.Core.Bool.{Bool, true, false, _&&_};
-ghost use mathlib.Core.List.{List, [], _∷_};
-ghost use Prim.Native.Nat.{ℕ, _+_, _-_, _*_, _^_, _<_, _≤_, min};
-ghost use lib.Ieee.{Float, nan};
-ghost use lib.ListN.{getD, length, set};
-ghost use Rattle.model.specs.Numbers.{finite, at, _⊖_, _⊗_, +0, −1};
+ghost use mathlib.Core.Bool.{true, false};
+ghost use mathlib.Core.List.{[], _∷_};
+ghost use Prim.Native.Nat.{_+_, _-_, _*_, _^_, _<_, _≤_, min};
+ghost use lib.ListN.{length, set};
+ghost use Rattle.model.specs.Numbers.{at, _⊖_, _⊗_};
 ghost use Rattle.model.specs.Lists.{list};
 ghost use Rattle.model.specs.Program.{cell, row, entry, positiveRow};
-ghost use Rattle.buffers.specs.Lent.{Room, term, puts, fills, columns, putsRight, fillsRight, wrote, putsCone, closed, putsCost, fillsCost};
+ghost use Rattle.buffers.specs.Lent.{Room, term, puts, fills, columns, putsRight, fillsRight, wrote, putsCone, putsCost, fillsCost};
 use model::Column;
 use model::Ends;
 use model::Row;
 use model::Tally;
 use model::Term;
 use numbers::flag;
-use numbers::is_finite;
 
-pub fn both(a: bool, b: bool) -> bool
-    ensures { λ r. ⌜ r ≡ (a && b) ⌝ }
+// Stores a number: the one place that knows its width.
+fn set_number(xs: &mut [u32], at: usize, x: usize)
+    requires { ⌜ (at < length (now xs)) × (x < 2 ^ 32) ⌝ }
+    ensures { λ _. ⌜ now (xs .exit) ≡ set (now (xs .entry)) at x ⌝ }
 {
-    a & b
+    xs[at] = x as u32;
+}
+
+fn set_float(ys: &mut [f64], at: usize, x: f64)
+    requires { ⌜ at < length (now ys) ⌝ }
+    ensures { λ _. ⌜ now (ys .exit) ≡ set (now (ys .entry)) at x ⌝ }
+{
+    ys[at] = x;
 }
 
 // Stores that an index past the end leaves out, as `set` of a list does.
@@ -30,7 +37,7 @@ fn store(xs: &mut [u32], at: usize, x: usize)
     ensures { λ _. ⌜ now (xs .exit) ≡ set (now (xs .entry)) at x ⌝ }
 {
     if at < xs.len() {
-        xs[at] = x as u32;
+        set_number(xs, at, x);
     }
 }
 
@@ -38,7 +45,7 @@ fn store_float(ys: &mut [f64], at: usize, x: f64)
     ensures { λ _. ⌜ now (ys .exit) ≡ set (now (ys .entry)) at x ⌝ }
 {
     if at < ys.len() {
-        ys[at] = x;
+        set_float(ys, at, x);
     }
 }
 
@@ -66,14 +73,54 @@ pub fn put(
     store(rows, at, row.at);
     store(cols, at, p.col.at);
     store_float(vals, at, p.v);
-    let finite = both(t.finite, is_finite(p.v));
     Tally {
         entries: at + 1,
         rows: t.rows,
         cones: t.cones,
         columns: t.columns,
-        finite: finite,
     }
+}
+
+// One entry more where all three buffers have a place for it.
+fn put_inside(
+    t: Tally,
+    rows: &mut [u32],
+    cols: &mut [u32],
+    vals: &mut [f64],
+    row: Row,
+    p: Term,
+) -> Tally
+    requires { ⌜ (t .entries + 1 < 2 ^ 64) × (row .at < 2 ^ 32) × (p .col .at < 2 ^ 32) × (t .entries < length (now rows)) × (t .entries < length (now cols)) × (t .entries < length (now vals)) ⌝ }
+    ensures { λ r. ⌜ puts t rows cols vals r (entry (row .at) (term p)) ⌝ }
+{
+    let at = t.entries;
+    set_number(rows, at, row.at);
+    set_number(cols, at, p.col.at);
+    set_float(vals, at, p.v);
+    Tally {
+        entries: at + 1,
+        rows: t.rows,
+        cones: t.cones,
+        columns: t.columns,
+    }
+}
+
+// Whether three buffers of these lengths have so many places from one on.
+fn three_fit(a: usize, b: usize, c: usize, at: usize, more: usize) -> bool
+    requires { ⌜ at + more < 2 ^ 64 ⌝ }
+    ensures { λ r. ⌜ (r ≡ true → (at + more ≤ a) × (at + more ≤ b) × (at + more ≤ c)) ⌝ }
+{
+    let end = at + more;
+    if a < end {
+        return false;
+    }
+    if b < end {
+        return false;
+    }
+    if c < end {
+        return false;
+    }
+    true
 }
 
 // One right side more.
@@ -83,13 +130,11 @@ pub fn put_right(t: Tally, right: &mut [f64], x: f64) -> Tally
 {
     let at = t.rows;
     store_float(right, at, x);
-    let finite = both(t.finite, is_finite(x));
     Tally {
         entries: t.entries,
         rows: at + 1,
         cones: t.cones,
         columns: t.columns,
-        finite: finite,
     }
 }
 
@@ -106,7 +151,6 @@ pub fn put_cone(t: Tally, kinds: &mut [u8], dims: &mut [u32], kind: u8, dim: usi
         rows: t.rows,
         cones: at + 1,
         columns: t.columns,
-        finite: t.finite,
     }
 }
 
@@ -117,13 +161,11 @@ pub fn put_cost(t: Tally, cost: &mut [f64], x: f64) -> Tally
 {
     let at = t.columns;
     store_float(cost, at, x);
-    let finite = both(t.finite, is_finite(x));
     Tally {
         entries: t.entries,
         rows: t.rows,
         cones: t.cones,
         columns: at + 1,
-        finite: finite,
     }
 }
 
@@ -172,6 +214,11 @@ pub fn row2(
     ensures { λ r. ⌜ wrote t rows cols vals right r (row x (term p ∷ term q ∷ []) ∷ []) 1 ⌝ }
 {
     let at = Row { at: t.rows };
+    if three_fit(rows.len(), cols.len(), vals.len(), t.entries, 2) {
+        let u = put_inside(t, rows, cols, vals, at, p);
+        let w = put_inside(u, rows, cols, vals, at, q);
+        return put_right(w, right, x);
+    }
     let u = put(t, rows, cols, vals, at, p);
     let w = put(u, rows, cols, vals, at, q);
     put_right(w, right, x)
@@ -192,6 +239,12 @@ pub fn row3(
     ensures { λ r. ⌜ wrote t rows cols vals right r (row x (term p ∷ term q ∷ term s ∷ []) ∷ []) 1 ⌝ }
 {
     let at = Row { at: t.rows };
+    if three_fit(rows.len(), cols.len(), vals.len(), t.entries, 3) {
+        let u = put_inside(t, rows, cols, vals, at, p);
+        let w = put_inside(u, rows, cols, vals, at, q);
+        let y = put_inside(w, rows, cols, vals, at, s);
+        return put_right(y, right, x);
+    }
     let u = put(t, rows, cols, vals, at, p);
     let w = put(u, rows, cols, vals, at, q);
     let y = put(w, rows, cols, vals, at, s);
@@ -215,6 +268,23 @@ fn put2(
     put(u, rows, cols, vals, row, q)
 }
 
+// The same where the buffers have the places.
+fn put2_inside(
+    t: Tally,
+    rows: &mut [u32],
+    cols: &mut [u32],
+    vals: &mut [f64],
+    row: Row,
+    p: Term,
+    q: Term,
+) -> Tally
+    requires { ⌜ (t .entries + 2 < 2 ^ 64) × (row .at < 2 ^ 32) × (p .col .at < 2 ^ 32) × (q .col .at < 2 ^ 32) × (t .entries + 2 ≤ length (now rows)) × (t .entries + 2 ≤ length (now cols)) × (t .entries + 2 ≤ length (now vals)) ⌝ }
+    ensures { λ r. ⌜ columns t rows cols vals r (row .at) ((λ i. term p) ∷ (λ i. term q) ∷ []) 1 ⌝ }
+{
+    let u = put_inside(t, rows, cols, vals, row, p);
+    put_inside(u, rows, cols, vals, row, q)
+}
+
 pub fn row5(
     t: Tally,
     rows: &mut [u32],
@@ -232,6 +302,12 @@ pub fn row5(
     ensures { λ r. ⌜ wrote t rows cols vals right r (row x (term p ∷ term q ∷ term s ∷ term w ∷ term z ∷ []) ∷ []) 1 ⌝ }
 {
     let at = Row { at: t.rows };
+    if three_fit(rows.len(), cols.len(), vals.len(), t.entries, 5) {
+        let a = put2_inside(t, rows, cols, vals, at, p, q);
+        let b = put2_inside(a, rows, cols, vals, at, s, w);
+        let c = put_inside(b, rows, cols, vals, at, z);
+        return put_right(c, right, x);
+    }
     let a = put2(t, rows, cols, vals, at, p, q);
     let b = put2(a, rows, cols, vals, at, s, w);
     let c = put(b, rows, cols, vals, at, z);

@@ -18,7 +18,7 @@ use Rattle.model.specs.declared.Objective.{Objective}
 use Rattle.model.specs.declared.Objective.the-variants.{Time, ThermalEnergy, TotalVariationTorque, Linear}
 use Rattle.model.proofs.All.{All, all-list}
 use Rattle.buffers.proofs.Laws.{list-snoc, joined-append}
-use Rattle.linear.specs.Charges.{Charged, chargedAt, chargesOf, abCost, Fits, Long, only, gathered, Gives}
+use Rattle.linear.specs.Charges.{Charged, chargedAt, chargesOf, abCost, Fits, Long, AllLong, Gathers, only, gathered, Gives}
 use Rattle.linear.proofs.Charges.{charged-then}
 use Rattle.linear.proofs.Columns.{list-cong}
 
@@ -52,13 +52,6 @@ gives-linear {o} {w} {a} {al} {b} {bl} e =
     let says : (l : ℕ) → (al ≡ l) × (bl ≡ l) → Linear w a al b bl ∷ [] ≡ Linear w a l b l ∷ [] = λ l h x. Linear w a (h .0 x) b (h .1 x) ∷ [] in
     subst (λ (z : Objective). Gives z true w a b) (sym e) (record { says = says })
 
--- the first k places of the arrays hold the Linear objectives, whose lists have length l
-pub record Gathers (l : ℕ) (os : List Objective) (ws : List Float) (us vs : List ℕ) (k : ℕ) : Type 0 where
-  pub weights : length ws ≡ 16
-  pub alphas : length us ≡ 16
-  pub betas : length vs ≡ 16
-  pub says : joined only os ≡ list (gathered l ws us vs) 0 k
-
 pub gathers-none : {l : ℕ} {ws : List Float} {us vs : List ℕ} → length ws ≡ 16 → length us ≡ 16 → length vs ≡ 16 → Gathers l [] ws us vs 0
 gathers-none a b c = record { weights = a; alphas = b; betas = c; says = refl }
 
@@ -85,6 +78,21 @@ module _ (l : ℕ) (ws : List Float) (us vs : List ℕ) (k : ℕ) (w : Float) (u
 pub gathers-all : {l : ℕ} (os : List Objective) {ws : List Float} {us vs : List ℕ} {k i m : ℕ} → Gathers l (take i os) ws us vs k → i ≤ m → m ≤ i → Gathers l (take m os) ws us vs k
 gathers-all os {i} {m} p h g = let e : m ≡ i = omega arith in rw e p
 
+-- one objective more
+pub gathers-next : {l : ℕ} (os : List Objective) (i : ℕ) {ws : List Float} {us vs : List ℕ} {k k′ : ℕ} {w : Float} {u v : ℕ} {m : Bool}
+    → Gathers l (take i os) ws us vs k → Long l (getD os i (Time nan)) → Gives (getD os i (Time nan)) m w u v → k′ ≡ cond m (k + 1) k → k < 16
+    → Gathers l (take (i + 1) os) (set ws k w) (set us k u) (set vs k v) k′
+gathers-next {l} os i {ws} {us} {vs} {k} {w} {u} {v} {m} p h g f b =
+    record {
+      weights = length-set ws k w ∙ p .weights;
+      alphas = length-set us k u ∙ p .alphas;
+      betas = length-set vs k v ∙ p .betas;
+      says = ap (λ (j : ℕ). joined only (take j os)) (add-one i) ∙ take-more only (Time nan) os i refl ∙ ap (λ (xs : List Objective). xs ++ only (getD os i (Time nan))) (p .says)
+          ∙ ap (λ (xs : List Objective). list (gathered l ws us vs) 0 k ++ xs) (g .says l h)
+          ∙ store l ws us vs k w u v m (omega (arith, p .weights)) (omega (arith, p .alphas)) (omega (arith, p .betas))
+          ∙ ap (λ (j : ℕ). list (gathered l (set ws k w) (set us k u) (set vs k v)) 0 j) (sym f);
+    }
+
 module _ (s : List Float) (e : Ends) (r0 r1 pool : List Float) where
   fits-long : (o : Objective) → Fits s e r0 r1 pool o → Long (length s) o
   fits-long (Time w) h = tt
@@ -92,21 +100,8 @@ module _ (s : List Float) (e : Ends) (r0 r1 pool : List Float) where
   fits-long (TotalVariationTorque w a al) h = tt
   fits-long (Linear w a al b bl) h = (h .2, h .3)
 
-  -- one objective more
-  pub gathers-next : (os : List Objective) (i : ℕ) {ws : List Float} {us vs : List ℕ} {k k′ : ℕ} {w : Float} {u v : ℕ} {m : Bool}
-      → Gathers (length s) (take i os) ws us vs k → Fits s e r0 r1 pool (getD os i (Time nan)) → Gives (getD os i (Time nan)) m w u v → k′ ≡ cond m (k + 1) k → k < 16
-      → Gathers (length s) (take (i + 1) os) (set ws k w) (set us k u) (set vs k v) k′
-  gathers-next os i {ws} {us} {vs} {k} {w} {u} {v} {m} p h g f b =
-      let l : ℕ = length s in
-      record {
-        weights = length-set ws k w ∙ p .weights;
-        alphas = length-set us k u ∙ p .alphas;
-        betas = length-set vs k v ∙ p .betas;
-        says = ap (λ (j : ℕ). joined only (take j os)) (add-one i) ∙ take-more only (Time nan) os i refl ∙ ap (λ (xs : List Objective). xs ++ only (getD os i (Time nan))) (p .says)
-            ∙ ap (λ (xs : List Objective). list (gathered l ws us vs) 0 k ++ xs) (g .says l (fits-long (getD os i (Time nan)) h))
-            ∙ store l ws us vs k w u v m (omega (arith, p .weights)) (omega (arith, p .alphas)) (omega (arith, p .betas))
-            ∙ ap (λ (j : ℕ). list (gathered l (set ws k w) (set us k u) (set vs k v)) 0 j) (sym f);
-      }
+  pub all-long : (os : List Objective) {m : ℕ} → ((i : ℕ) → i < m → Fits s e r0 r1 pool (getD os i (Time nan))) → AllLong (length s) os m
+  all-long os h i l = fits-long (getD os i (Time nan)) (h i l)
 
   linear-charges : (os : List Objective) → joined (chargesOf s e r0 r1 pool) (joined only os) ≡ joined (chargesOf s e r0 r1 pool) os
   linear-charges [] = refl

@@ -2,9 +2,9 @@
 use mathlib.Core.Path.{_≡_}
 use mathlib.Core.Bool.{Bool, cond}
 use mathlib.Core.List.{List, [], _∷_}
-use Prim.Native.Nat.{ℕ, _+_, _-_, _≤_, max}
+use Prim.Native.Nat.{ℕ, _+_, _-_, _≤_, _<_, max}
 use lib.Dec.{eqb}
-use lib.Ieee.{Float}
+use lib.Ieee.{Float, nan}
 use lib.ListN.{length, getD}
 use Rattle.model.specs.Numbers.{at, _⊕_, +0}
 use Rattle.model.specs.Problem.{Roots, isLinear}
@@ -77,3 +77,14 @@ gathered l ws us vs j = Linear (at ws j) (getD us j 0) l (getD vs j 0) l
 -- what is gathered of an objective whose lists have length l: whether it counts, its weight and the places of its lists
 pub record Gives (o : Objective) (counts : Bool) (w : Float) (u v : ℕ) : Type 0 where
   pub says : (l : ℕ) → Long l o → only o ≡ given counts (Linear w u l v l ∷ [])
+
+-- the lists of the first `count` objectives have length l
+abbrev pub AllLong : ℕ → List Objective → ℕ → Type 0
+AllLong l os count = (i : ℕ) → i < count → Long l (getD os i (Time nan))
+
+-- the first k places of the arrays hold the Linear objectives, whose lists have length l
+pub record Gathers (l : ℕ) (os : List Objective) (ws : List Float) (us vs : List ℕ) (k : ℕ) : Type 0 where
+  pub weights : length ws ≡ 16
+  pub alphas : length us ≡ 16
+  pub betas : length vs ≡ 16
+  pub says : joined only os ≡ list (gathered l ws us vs) 0 k

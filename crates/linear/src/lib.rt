@@ -13,7 +13,7 @@ ghost use Rattle.model.specs.Program.{cell};
 ghost use Rattle.model.specs.Objectives.{endCharge};
 ghost use Rattle.buffers.specs.Lent.{fillsCost};
 ghost use Rattle.buffers.specs.Inputs.{path, Sized};
-ghost use Rattle.linear.specs.Charges.{Given, Fits, Gives, gathered, Sums, Charged, linearCharges, chargesOf, abCost};
+ghost use Rattle.linear.specs.Charges.{Given, Fits, Gives, AllLong, Gathers, gathered, Sums, Charged, linearCharges, chargesOf, abCost};
 use model::Column;
 use model::Ends;
 use model::Objective;
@@ -150,7 +150,7 @@ fn charge(
 
 // The cost of column c with all Linear objectives. Their weights and the places of their lists stand in three arrays, which are lent, where
 // an array of objectives would be copied for each column.
-fn column_cost(
+pub fn column_cost(
     s: &[f64],
     e: Ends,
     r0: &[f64],
@@ -201,10 +201,10 @@ fn charged_costs(
 
 // What column_cost needs of an objective; only a Linear counts.
 struct Gathered {
-    weight: f64,
-    alpha: usize,
-    beta: usize,
-    counts: bool,
+    pub weight: f64,
+    pub alpha: usize,
+    pub beta: usize,
+    pub counts: bool,
 }
 
 fn none_gathered() -> Gathered
@@ -256,7 +256,38 @@ fn after(k: usize, counts: bool) -> usize
     if counts { k + 1 } else { k }
 }
 
-// The cost of the a and b columns: each told, tested and written on its own, so that nothing is read back. Without a Linear it is 0.
+// The Linear objectives among those that count, in order: their weights and the places of their lists.
+pub struct LinearParts {
+    pub weights: [f64; 16],
+    pub alphas: [usize; 16],
+    pub betas: [usize; 16],
+    pub count: usize,
+}
+
+pub fn gather_all(os: [Objective; 16], count: usize) -> LinearParts
+    requires { ⌜ count ≤ 16 ⌝ }
+    ensures { λ r. ⌜ (r .count ≤ count) × ((l : ℕ) → AllLong l os count → Gathers l (take count os) (r .weights) (r .alphas) (r .betas) (r .count)) ⌝ }
+{
+    let mut weights = [0.0; 16];
+    let mut alphas = [0; 16];
+    let mut betas = [0; 16];
+    let mut k = 0;
+    for i in 0..count {
+        let g = gather(os[i]);
+        weights[k] = g.weight;
+        alphas[k] = g.alpha;
+        betas[k] = g.beta;
+        k = after(k, g.counts);
+    }
+    LinearParts {
+        weights: weights,
+        alphas: alphas,
+        betas: betas,
+        count: k,
+    }
+}
+
+// The cost of the a and b columns: each told and written on its own, so that nothing is read back. Without a Linear it is 0.
 pub fn ab_costs(
     t: Tally,
     cost: &mut [f64],
@@ -271,19 +302,13 @@ pub fn ab_costs(
     requires { ⌜ (t .columns + 2 * length (now s) ≤ 2 ^ 32) × Sized (now s) e × (count ≤ 16) × ((i : ℕ) → i < count → Fits (now s) e (now r0) (now r1) (now pool) (getD os i (Time nan))) ⌝ }
     ensures { λ r. ⌜ fillsCost t cost r (abCost (now (s .entry)) e (now (r0 .entry)) (now (r1 .entry)) (now (pool .entry)) (take count os)) 0 (2 * (n (path (now (s .entry)) e) + 1)) ⌝ }
 {
-    let mut weights = [0.0; 16];
-    let mut alphas = [0; 16];
-    let mut betas = [0; 16];
-    let mut k = 0;
-    for i in 0..count {
-        let g = gather(os[i]);
-        weights[k] = g.weight;
-        alphas[k] = g.alpha;
-        betas[k] = g.beta;
-        k = after(k, g.counts);
-    }
+    let g = gather_all(os, count);
+    let k = g.count;
     if k == 0 {
         return buffers::cost_same(t, cost, 0.0, 2 * s.len());
     }
+    let weights = g.weights;
+    let alphas = g.alphas;
+    let betas = g.betas;
     charged_costs(t, cost, s, e, r0, r1, pool, &weights, &alphas, &betas, k)
 }

@@ -71,13 +71,12 @@ pub struct Term {
     pub v: f64,
 }
 
-// The running tally: entries, rows, cones and columns written so far, and whether every number was finite (refusal 20).
+// The running tally: entries, rows, cones and columns written so far.
 pub struct Tally {
     pub entries: usize,
     pub rows: usize,
     pub cones: usize,
     pub columns: usize,
-    pub finite: bool,
 }
 
 // The four counts that sizing answers.

@@ -1,6 +1,7 @@
 // Tests and small functions on numbers.
 
 ghost use mathlib.Core.Path.{_≡_};
+ghost use mathlib.Core.Bool.{Bool, _&&_};
 ghost use Prim.Native.Nat.{min, max};
 ghost use Rattle.model.specs.Numbers.{finite};
 
@@ -10,6 +11,13 @@ pub fn is_finite(x: f64) -> bool
 {
     let d = x - x;
     d == d
+}
+
+// Both tests pass. No branch: a scan goes on to its end anyway.
+pub fn both(a: bool, b: bool) -> bool
+    ensures { λ r. ⌜ r ≡ (a && b) ⌝ }
+{
+    a & b
 }
 
 // 1 for a positive count, and 0 for 0.

@@ -3,8 +3,10 @@
 ghost use mathlib.Core.Path.{_≡_};
 ghost use mathlib.Core.List.{List};
 ghost use Prim.Native.Nat.{ℕ, _+_, _*_, _^_, _<_, _≤_};
-ghost use lib.ListN.{length, take};
+ghost use lib.Ieee.{nan};
+ghost use lib.ListN.{length, getD, take};
 ghost use Rattle.model.specs.Objectives.{objectiveBlock};
+ghost use Rattle.model.specs.declared.Objective.the-variants.{Time};
 ghost use Rattle.model.specs.Assembled.{objectiveBlocks};
 ghost use Rattle.buffers.specs.Lent.{RoomAll, built};
 ghost use Rattle.buffers.specs.Inputs.{path, Sized, torqueOf};
@@ -60,6 +62,34 @@ fn objective(
     }
 }
 
+// Objective number i.
+fn objective_at(
+    t: Tally,
+    r: &mut [u32],
+    c: &mut [u32],
+    v: &mut [f64],
+    h: &mut [f64],
+    k: &mut [u8],
+    m: &mut [u32],
+    q: &mut [f64],
+    s: &[f64],
+    e: Ends,
+    y: &[f64],
+    ta: &[f64],
+    tb: &[f64],
+    tg: &[f64],
+    d: usize,
+    pool: &[f64],
+    os: [Objective; 16],
+    i: usize,
+) -> Tally
+    requires { ⌜ RoomAll t 262336 × Sized (now s) e × (i < 16) × Ready (lends (path (now s) e) (now y) (torqueOf d (now ta) (now tb) (now tg)) (now pool)) (getD os i (Time nan)) ⌝ }
+    ensures { λ r′. ⌜ built t r c v h k m q r′ (objectiveBlock (lends (path (now (s .entry)) e) (now (y .entry)) (torqueOf d (now (ta .entry)) (now (tb .entry)) (now (tg .entry))) (now (pool .entry))) (t .columns) (getD os i (Time nan))) 262336 ⌝ }
+{
+    let o = os[i];
+    objective(t, r, c, v, h, k, m, q, s, e, y, ta, tb, tg, d, pool, o)
+}
+
 // All that count.
 pub fn clarabel_objective_copp3(
     t: Tally,
@@ -86,7 +116,7 @@ pub fn clarabel_objective_copp3(
 {
     let mut u = t;
     for i in 0..count {
-        u = objective(
+        u = objective_at(
             u,
             rows,
             cols,
@@ -103,7 +133,8 @@ pub fn clarabel_objective_copp3(
             tg,
             d,
             pool,
-            os[i],
+            os,
+            i,
         );
     }
     u

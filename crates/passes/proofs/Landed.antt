@@ -1,6 +1,6 @@
--- What the program's block leaves from the start: the model's lists in the buffers, its lengths and its test of finiteness in the tally. Assumes nothing.
+-- What the program's block leaves from the start: the model's lists in the buffers, its lengths in the tally. Assumes nothing.
 use mathlib.Core.Path.{_≡_, sym, ap, subst, _∙_}
-use mathlib.Core.Bool.{not, _&&_}
+use mathlib.Core.Bool.{Bool, not}
 use mathlib.Core.List.{List, _++_}
 use Prim.Native.Nat.{ℕ, _+_, _≤_}
 use native.Mathlib.Nat.{zero-add}
@@ -9,8 +9,8 @@ use lib.Ieee.{Float}
 use lib.ListN.{length, drop, length-map}
 use lib.Seq.{sets, sets-eq}
 use Rattle.model.specs.Problem.{Problem}
-use Rattle.model.specs.Assembled.{cones, bands, entries, rightSide, cost, rowNumbers, columnNumbers, values, coneKinds, coneDimensions, listLengths, allFinite}
-use Rattle.model.specs.Counts.{counts, fourCounts}
+use Rattle.model.specs.Assembled.{cones, bands, entries, rightSide, cost, rowNumbers, columnNumbers, values, coneKinds, coneDimensions, listLengths}
+use Rattle.model.specs.Counts.{counts}
 use Rattle.model.specs.Verdicts.{_then_, refuse}
 use Rattle.model.specs.Refusals.{refusal}
 use Rattle.model.specs.Answers.{Buffers, told, outcome, lengths, roomRefusal, finiteRefusal, verdictOf, written, assembly}
@@ -23,7 +23,7 @@ use Rattle.model.specs.declared.Tally.{Tally}
 use Rattle.model.proofs.Passes.{then-passes}
 use Rattle.model.proofs.Room.{Enough, room-passes}
 use Rattle.buffers.specs.Buffers.{state, emit, Built}
-use Rattle.passes.specs.Program.{whole, start, finished, buffers, answered}
+use Rattle.passes.specs.Program.{everyFinite, whole, start, finished, buffers, answered}
 
 sets-front {ℓ} : {A : Type ℓ} (l vs : List A) → length vs ≤ length l → sets l 0 vs ≡ vs ++ drop (length vs) l
 sets-front l vs h = sets-eq vs l 0 (rw zero-add h) ∙ ap (λ k. vs ++ drop k l) (zero-add (length vs))
@@ -39,7 +39,6 @@ module _ (p : Problem) {R C : List ℕ} {W H : List Float} {K D : List ℕ} {Q :
         rows = zero-add (length (rightSide p)) i;
         cones = zero-add (length (cones p)) i;
         columns = zero-add (length (cost p)) i;
-        finite = allFinite (values p) && allFinite (rightSide p) && allFinite (cost p);
       })
 
   module _ (same : listLengths p ≡ counts p) (f : Enough (counts p) (buffers R C W H K D Q)) where
@@ -68,12 +67,12 @@ module _ (p : Problem) (have : List ℕ) {v : Verdict} (e : v ≡ refusal p) whe
   unfolding _then_
   stopped f = rw (sym e ∙ f) f
 
-  pub passed : {t : Tally} {u : Verdict} → v ≡ Accepted → listLengths p ≡ counts p → t ≡ finished p
-      → u ≡ (roomRefusal (fourCounts (t .entries) (t .rows) (t .cones) (t .columns)) have then refuse 20 0 (not (t .finite))) → u ≡ verdictOf p have
-  unfolding _then_ finiteRefusal listLengths
-  passed {u} f same g h =
-      let x = subst (λ (z : Tally). u ≡ (roomRefusal (fourCounts (z .entries) (z .rows) (z .cones) (z .columns)) have then refuse 20 0 (not (z .finite)))) g h in
-      rw (sym e ∙ f, ← same) x
+  pub passed : {t : FourCounts} {ok : Bool} {u : Verdict} → v ≡ Accepted → t ≡ counts p → ok ≡ everyFinite p
+      → u ≡ (roomRefusal t have then refuse 20 0 (not ok)) → u ≡ verdictOf p have
+  unfolding _then_ finiteRefusal
+  passed {ok} {u} f same g h =
+      let x = subst (λ (z : Bool). u ≡ (roomRefusal (counts p) have then refuse 20 0 (not z))) g (subst (λ (z : FourCounts). u ≡ (roomRefusal z have then refuse 20 0 (not ok))) same h) in
+      rw (sym e ∙ f) x
 
 module _ (p : Problem) (b : Buffers) {v : Verdict} (e : v ≡ verdictOf p (lengths b)) where
   pub refused : {r k : ℕ} → v ≡ Refused r k → answered (Refusal r k) b ≡ assembly p b

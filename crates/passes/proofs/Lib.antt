@@ -1,3 +1,4 @@
 pub mod Whole
 pub mod Landed
 pub mod Accepted
+pub mod Numbers

@@ -6,7 +6,7 @@ use native.Mathlib.Nat.{zero-add}
 use lib.Ieee.{Float}
 use lib.ListN.{length}
 use Rattle.model.specs.Lists.{joined}
-use Rattle.model.specs.Program.{Cone, Block}
+use Rattle.model.specs.Program.{Cone}
 use Rattle.model.specs.Problem.{Problem, objectives, n}
 use Rattle.model.specs.Standard.{standard, root}
 use Rattle.model.specs.Assembled.{objectiveBlocks, blocks, cones, cost}
@@ -18,7 +18,7 @@ use Rattle.passes.specs.Program.{whole}
 
 module _ (p : Problem) where
   -- the problem as the objectives' writer sees it
-  abbrev seen : Problem
+  abbrev pub seen : Problem
   seen = lends (p .path) (p .thermal) (p .torque) (p .pool)
 
   abbrev first : ℕ

@@ -1,12 +1,12 @@
--- The assembled program as one block, the tally before it, and the records of the answer by position.
-use mathlib.Core.Bool.{true, _&&_}
+-- The assembled program as one block, the test of its numbers, the tally before it, and the records of the answer by position.
+use mathlib.Core.Bool.{Bool, _&&_}
 use mathlib.Core.List.{List, []}
 use Prim.Native.Nat.{ℕ}
 use lib.Ieee.{Float}
 use lib.ListN.{length}
 use Rattle.model.specs.Problem.{Problem}
 use Rattle.model.specs.Program.{Block}
-use Rattle.model.specs.Assembled.{cones, entries, values, rightSide, cost, allFinite}
+use Rattle.model.specs.Assembled.{cones, entries, rightSide, values, cost, allFinite}
 use Rattle.model.specs.Answers.{Buffers, Result, told}
 use Rattle.model.specs.declared.Answer.{Answer}
 use Rattle.model.specs.declared.Tally.{Tally}
@@ -15,10 +15,14 @@ use Rattle.model.specs.declared.Tally.{Tally}
 abbrev pub whole : Problem → Block
 whole p = record { cones = cones p; cost = cost p; charges = [] }
 
-abbrev pub start : Tally
-start = record { entries = 0; rows = 0; cones = 0; columns = 0; finite = true }
+-- refusal 20's test: every number to be written is finite
+abbrev pub everyFinite : Problem → Bool
+everyFinite p = allFinite (values p) && allFinite (rightSide p) && allFinite (cost p)
 
--- the tally after it: the four counts, and whether every number is finite
+abbrev pub start : Tally
+start = record { entries = 0; rows = 0; cones = 0; columns = 0 }
+
+-- the tally after it: the four counts
 abbrev pub finished : Problem → Tally
 finished p =
     record {
@@ -26,7 +30,6 @@ finished p =
       rows = length (rightSide p);
       cones = length (cones p);
       columns = length (cost p);
-      finite = allFinite (values p) && allFinite (rightSide p) && allFinite (cost p);
     }
 
 abbrev pub buffers : List ℕ → List ℕ → List Float → List Float → List ℕ → List ℕ → List Float → Buffers

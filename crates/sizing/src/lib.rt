@@ -273,7 +273,7 @@ fn counted(s: Measures, objectives: [Objective; 16], count: usize) -> FourCounts
 }
 
 // The four counts of a problem whose numbers and tables are as an accepted problem's. The tables that are not lent play no part.
-fn count(
+pub fn count(
     job: Job,
     objectives: [Objective; 16],
     grid: &[f64],

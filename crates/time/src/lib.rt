@@ -96,7 +96,7 @@ fn time_cones(
 }
 
 // The Time weight of station k.
-fn get_weight_a_topp3(s: &[f64], e: Ends, k: usize) -> f64
+pub fn get_weight_a_topp3(s: &[f64], e: Ends, k: usize) -> f64
     requires { ⌜ Sized (now s) e × (0 < k) × (k + 1 < length (now s)) ⌝ }
     ensures { λ r. ⌜ r ≡ timeWeight (path (now (s .entry)) e) k ⌝ }
 {

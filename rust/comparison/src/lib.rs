@@ -3,6 +3,7 @@
 pub mod buffers;
 pub mod case;
 pub mod damage;
+pub mod one_number;
 pub mod tally;
 
 pub use problems::{generate, rng};
@@ -190,7 +191,8 @@ fn bits(numbers: &[f64]) -> impl Iterator<Item = u64> + '_ {
     numbers.iter().map(|number| number.to_bits())
 }
 
-fn same(found: &copp3_assembly::Assembly, expected: &Assembled) -> Check {
+/// Whether vectors hold the same bits as the reference's.
+pub fn same(found: &copp3_assembly::Assembly, expected: &Assembled) -> Check {
     let equal = found.rows == expected.row
         && found.columns == expected.col
         && bits(&found.values).eq(bits(&expected.val))

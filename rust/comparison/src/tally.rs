@@ -23,6 +23,18 @@ impl Tally {
         self.answers[number as usize] += 1;
     }
 
+    /// How many calls had this answer.
+    pub fn met(&self, number: u64) -> u64 {
+        self.answers[number as usize]
+    }
+
+    pub fn add(&mut self, other: &Self) {
+        self.problems += other.problems;
+        for (count, more) in self.answers.iter_mut().zip(other.answers) {
+            *count += more;
+        }
+    }
+
     pub fn calls(&self) -> u64 {
         self.answers.iter().sum()
     }

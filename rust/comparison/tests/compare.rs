@@ -1,9 +1,10 @@
 //! The library against the reference: document 01's ledger, all small shapes, the
-//! limits, and at least 200,000 random and damaged problems.
+//! limits, 100,000 random and damaged problems, and 20,000 aimed at refusal 20.
 
 use comparison::buffers::needed;
 use comparison::case::Case;
 use comparison::generate::shaped;
+use comparison::one_number::Group;
 use comparison::rng::{Flavour, Rng};
 use comparison::tally::Tally;
 use comparison::{check, every_length, ordinary, run};
@@ -27,9 +28,19 @@ fn thoroughly(case: &Case, rng: &mut Rng, tally: &mut Tally) {
 #[test]
 fn random_problems() {
     let mut tally = Tally::default();
-    run(20260101, 0, 200_000, &mut tally).unwrap();
+    run(20260101, 0, 100_000, &mut tally).unwrap();
     println!("{tally}");
     tally.covers(50).unwrap();
+}
+
+/// Refusal 20 at single numbers, and what no row or cost takes.
+#[test]
+fn single_numbers() {
+    for mut group in [Group::written(), Group::unread()] {
+        group.run(20260102, 0, 10_000).unwrap();
+        println!("{}", group.report());
+        group.covers(50).unwrap();
+    }
 }
 
 #[test]

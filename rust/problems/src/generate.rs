@@ -61,6 +61,22 @@ pub fn shaped(
     count: usize,
     flavour: Flavour,
 ) -> Sample {
+    let mut sample = unspoiled(rng, n, num_stationary, d, count, flavour);
+    if rng.chance(70) {
+        spoil_unread(rng, &mut sample);
+    }
+    sample
+}
+
+/// The same with finite numbers in the unread places too; upper bounds may be infinite.
+pub fn unspoiled(
+    rng: &mut Rng,
+    n: usize,
+    num_stationary: (usize, usize),
+    d: usize,
+    count: usize,
+    flavour: Flavour,
+) -> Sample {
     let mut sample = Sample::plain(n, num_stationary, d);
     sample.grid = grid(rng, n, flavour);
     sample.boundary = boundary(rng, flavour);
@@ -70,9 +86,6 @@ pub fn shaped(
     fill(rng, &mut sample, flavour);
     for _ in 0..count {
         objective(rng, &mut sample, flavour);
-    }
-    if rng.chance(70) {
-        spoil_unread(rng, &mut sample);
     }
     sample
 }
@@ -241,21 +254,19 @@ fn objective(rng: &mut Rng, sample: &mut Sample, flavour: Flavour) {
 }
 
 /// Which objectives a problem has.
-struct Present {
-    thermal: bool,
-    variation: bool,
-    linear: bool,
+#[derive(Default)]
+pub struct Present {
+    pub time: bool,
+    pub thermal: bool,
+    pub variation: bool,
+    pub linear: bool,
 }
 
-fn present(sample: &Sample) -> Present {
-    let mut found = Present {
-        thermal: false,
-        variation: false,
-        linear: false,
-    };
+pub fn present(sample: &Sample) -> Present {
+    let mut found = Present::default();
     for objective in &sample.objectives {
         match objective {
-            Objective::Time(..) => {}
+            Objective::Time(..) => found.time = true,
             Objective::ThermalEnergy(..) => found.thermal = true,
             Objective::TotalVariationTorque(..) => found.variation = true,
             Objective::Linear(..) => found.linear = true,
@@ -354,8 +365,8 @@ fn spoil_uncounted(rng: &mut Rng, sample: &mut Sample, found: &Present) {
     }
 }
 
-/// Spoils what no list of the pool reads; of alpha and beta, the stations that no cost uses.
-fn spoil_pool(rng: &mut Rng, sample: &mut Sample) {
+/// Which places of the pool are read; of alpha and beta, the stations that a cost uses.
+pub fn read_of_pool(sample: &Sample) -> Vec<bool> {
     let (n0, n1) = sample.num_stationary;
     let n = sample.grid.len() - 1;
     let mut read = vec![false; sample.pool.len()];
@@ -373,6 +384,12 @@ fn spoil_pool(rng: &mut Rng, sample: &mut Sample) {
             }
         }
     }
+    read
+}
+
+/// Spoils the places of the pool that are not read.
+fn spoil_pool(rng: &mut Rng, sample: &mut Sample) {
+    let read = read_of_pool(sample);
     for (number, read) in sample.pool.iter_mut().zip(read) {
         if !read {
             spoil(rng, number);

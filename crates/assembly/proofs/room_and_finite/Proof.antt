@@ -9,4 +9,4 @@ room-and-finite-spec =
     (λ c κs. search needs)
     (λ c κs. search needs)
     (λ c κs. search needs)
-    (λ c. rw (← (c .before .before .before .room .ensures), ← (c .before .refuse-if .ensures)) (c .first-of .ensures)))
+    (λ c. rw (← (c .before .before .room .ensures), ← (c .before .refuse-if .ensures)) (c .first-of .ensures)))

@@ -1,8 +1,7 @@
 use mathlib.Core.Path.{sym, _∙_}
 use denote.Ref.{now}
 use Rattle.model.specs.Problem.{problem}
-use Rattle.model.proofs.Usable.{usable, usable-sizes}
-use Rattle.model.proofs.Counted.{counted}
+use Rattle.checks.proofs.Within.{fitting}
 use Rattle.passes.proofs.Landed.{stopped, passed}
 use borrow.Author.Needs.{needs}
 use Rattle.assembly.proofs.verdict.Statement.{statement}
@@ -19,6 +18,7 @@ verdict-spec =
     enum-told
     (λ c. search needs)
     (λ c. let a = (c .before .before .before .before .before .before .before .before .before .before .before .before .before .before .before .before .before .before .before .before .before .args) in stopped (problem (a .job) (a .objectives) (now (a .grid)) (now (a .acc-rows)) (now (a .jerk-rows)) (now (a .amax)) (now (a .acc-a)) (now (a .acc-b)) (now (a .acc-max)) (now (a .jerk-a)) (now (a .jerk-b)) (now (a .jerk-c)) (now (a .jerk-max)) (now (a .thermal)) (now (a .torque-a)) (now (a .torque-b)) (now (a .torque-g)) (now (a .start-roots)) (now (a .end-roots)) (now (a .pool))) (a .lengths) (c .before .before .check .ensures) (c .enum-told2 .given .1))
-    (λ c κs. sym (c .before .before .check .ensures) ∙ (c .enum-told .given .1))
+    (λ c κs. fitting _ (sym (c .before .before .check .ensures) ∙ (c .enum-told .given .1)))
+    (λ c κs. sym (c .before .before .before .check .ensures) ∙ (c .before .enum-told .given .1))
     (λ c κs. search needs)
-    (λ c. let a = (c .before .before .before .before .before .before .before .before .before .before .before .before .before .before .before .before .before .before .before .before .before .before .before .args) in let p = (problem (a .job) (a .objectives) (now (a .grid)) (now (a .acc-rows)) (now (a .jerk-rows)) (now (a .amax)) (now (a .acc-a)) (now (a .acc-b)) (now (a .acc-max)) (now (a .jerk-a)) (now (a .jerk-b)) (now (a .jerk-c)) (now (a .jerk-max)) (now (a .thermal)) (now (a .torque-a)) (now (a .torque-b)) (now (a .torque-g)) (now (a .start-roots)) (now (a .end-roots)) (now (a .pool))) in let e = (c .before .before .before .before .check .ensures) in let f = (c .before .before .enum-told .given .1) in passed p (a .lengths) e f (counted p (usable-sizes p (usable p (sym e ∙ f)))) (c .before .dry .ensures) (c .room-and-finite .ensures)))
+    (λ c. let a = (c .before .before .before .before .before .before .before .before .before .before .before .before .before .before .before .before .before .before .before .before .before .before .before .before .args) in passed (problem (a .job) (a .objectives) (now (a .grid)) (now (a .acc-rows)) (now (a .jerk-rows)) (now (a .amax)) (now (a .acc-a)) (now (a .acc-b)) (now (a .acc-max)) (now (a .jerk-a)) (now (a .jerk-b)) (now (a .jerk-c)) (now (a .jerk-max)) (now (a .thermal)) (now (a .torque-a)) (now (a .torque-b)) (now (a .torque-g)) (now (a .start-roots)) (now (a .end-roots)) (now (a .pool))) (a .lengths) (c .before .before .before .before .before .check .ensures) (c .before .before .before .enum-told .given .1) ((c .before .before .count .ensures) _ _ _ _ _ _ _ _ _ _ _ _ _ _) (c .before .every-number .ensures) (c .room-and-finite .ensures)))

@@ -6,4 +6,8 @@ use Rattle.buffers.proofs.put_right.Tie as tie
 pub put-right-spec : {M : Type 1} → statement M
 put-right-spec =
     tie.close
-    (tie.spec (λ c κs. search needs) (λ c κs. search needs) (λ c κs. search needs) (λ c. search needs) (λ c. search needs) (λ c. search one-right))
+    (tie.spec
+    (λ c κs. search needs)
+    (λ c. search needs)
+    (λ c. search needs)
+    (λ c. search one-right))

@@ -5,4 +5,4 @@ use Rattle.buffers.proofs.store_float.Statement.{statement}
 use Rattle.buffers.proofs.store_float.Tie as tie
 
 pub store-float-spec : {M : Type 1} → statement M
-store-float-spec = tie.close (tie.spec (λ c. search needs) (λ c. search needs) (λ c. search needs) (λ c. search needs) (λ c. sym (set-out _ _ _ (c .if1 .left))))
+store-float-spec = tie.close (tie.spec (λ c κs. search needs) (λ c. search needs) (λ c. search needs) (λ c. sym (set-out _ _ _ (c .if1 .left))))

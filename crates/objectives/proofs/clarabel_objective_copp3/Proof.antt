@@ -9,10 +9,25 @@ use Rattle.objectives.proofs.clarabel_objective_copp3.Statement.{statem
 use Rattle.objectives.proofs.clarabel_objective_copp3.Tie as tie
 
 abbrev Inv-loop : tie.InvT-loop
-Inv-loop rows₀ cols₀ vals₀ right₀ kinds₀ dims₀ cost₀ s e y ta tb tg d pool count os u₀ i₀ rows cols vals right kinds dims cost u i = (i ≤ count) × BuiltAll (state rows₀ cols₀ vals₀ right₀ kinds₀ dims₀ cost₀ u₀) (state rows cols vals right kinds dims cost u) (lends (path s e) y (torqueOf d ta tb tg) pool) os i 262336
+Inv-loop rows₀ cols₀ vals₀ right₀ kinds₀ dims₀ cost₀ s e y ta tb tg d pool os count u₀ i₀ rows cols vals right kinds dims cost u i = (i ≤ count) × BuiltAll (state rows₀ cols₀ vals₀ right₀ kinds₀ dims₀ cost₀ u₀) (state rows cols vals right kinds dims cost u) (lends (path s e) y (torqueOf d ta tb tg) pool) os i 262336
 
 abbrev μ-loop : tie.MeasureT-loop
-μ-loop rows₀ cols₀ vals₀ right₀ kinds₀ dims₀ cost₀ s e y ta tb tg d pool count os u₀ i₀ rows cols vals right kinds dims cost u i = count - i
+μ-loop rows₀ cols₀ vals₀ right₀ kinds₀ dims₀ cost₀ s e y ta tb tg d pool os count u₀ i₀ rows cols vals right kinds dims cost u i = count - i
+
+objective-at-requires : tie.Need-objective-at-requires Inv-loop μ-loop
+objective-at-requires c κs = (omega (arith, (c .before .before .before .before .before .before .before .before .before .before .before .before .before .before .before .before .before .before .before .before .before .before .pre) .0, (c .before .before .before .before .before .before .before .before .before .before .before .before .before .before .before .before .before .before .before .before .before .before .pre) .2, (c .before .before .before .before .before .before .before .loop-test), (c .before .before .before .before .before .before .before .before .loop .inv) .1 .built), (c .before .before .before .before .before .before .before .before .before .before .before .before .before .before .before .before .before .before .before .before .before .before .pre) .1, omega (arith, (c .before .before .before .before .before .before .before .before .before .before .before .before .before .before .before .before .before .before .before .before .before .before .pre) .2, (c .before .before .before .before .before .before .before .loop-test)), (c .before .before .before .before .before .before .before .before .before .before .before .before .before .before .before .before .before .before .before .before .before .before .pre) .3 (c .before .before .before .before .before .before .before .before .loop .i) (c .before .before .before .before .before .before .before .loop-test .taken))
+
+add-i : tie.Need-add-i Inv-loop μ-loop
+add-i c = omega (arith, (c .before .before .before .before .before .before .before .before .before .before .before .before .before .before .before .before .before .before .before .before .before .before .before .before .before .before .before .before .before .before .before .before .before .before .before .before .before .pre) .2, (c .before .before .before .before .before .before .before .before .before .before .before .before .before .before .before .before .before .before .before .before .before .before .loop-test))
+
+loop-less : tie.Need-loop-less Inv-loop μ-loop
+loop-less c = omega (arith, (c .before .before .before .before .before .before .before .before .before .before .before .before .before .before .before .before .before .before .before .before .before .before .loop-test))
+
+loop-again : tie.Need-loop-again Inv-loop μ-loop
+loop-again c = (omega (arith, (c .before .before .before .before .before .before .before .before .before .before .before .before .before .before .before .before .before .before .before .before .before .before .loop-test)), all-more ((c .before .before .before .before .before .before .before .before .before .before .before .before .before .before .before .before .before .before .before .before .before .before .before .loop .inv) .1) (c .before .before .before .before .before .before .before .before .before .before .before .before .before .before .objective-at .ensures) (omega (arith, (c .before .before .before .before .before .before .before .before .before .before .before .before .before .before .before .before .before .before .before .before .before .before .before .before .before .before .before .before .before .before .before .before .before .before .before .before .before .pre) .2, (c .before .before .before .before .before .before .before .before .before .before .before .before .before .before .before .before .before .before .before .before .before .before .loop-test), (c .before .before .before .before .before .before .before .before .before .before .before .before .before .before .before .before .before .before .before .before .before .before .before .before .before .before .before .before .before .before .before .before .before .before .before .before .before .good))))
+
+returns : tie.Need-returns Inv-loop μ-loop
+returns c = all-end ((c .before .loop .inv) .1) ((c .before .loop .inv) .0) (c .loop-test .left) (omega (arith, (c .before .before .before .before .before .before .before .before .before .before .before .before .before .before .before .pre) .2))
 
 pub clarabel-objective-copp3-spec : {M : Type 1} → statement M
 clarabel-objective-copp3-spec =
@@ -21,12 +36,10 @@ clarabel-objective-copp3-spec =
     Inv-loop
     μ-loop
     (λ c. (omega arith, all-none))
-    (λ c. omega (arith, (c .before .before .before .before .before .before .before .before .before .before .before .before .before .before .before .before .before .before .before .before .before .before .pre) .2, (c .before .before .before .before .before .before .before .loop-test)))
-    (λ c. omega (arith, (c .before .before .before .before .before .before .before .before .before .before .before .before .before .before .before .before .before .before .before .before .before .before .pre) .2, (c .before .before .before .before .before .before .before .loop-test)))
-    (λ c κs. (omega (arith, (c .before .before .before .before .before .before .before .before .before .before .before .before .before .before .before .before .before .before .before .before .before .before .before .pre) .0, (c .before .before .before .before .before .before .before .before .before .before .before .before .before .before .before .before .before .before .before .before .before .before .before .pre) .2, (c .before .before .before .before .before .before .before .before .loop-test), (c .before .before .before .before .before .before .before .before .before .loop .inv) .1 .built), (c .before .before .before .before .before .before .before .before .before .before .before .before .before .before .before .before .before .before .before .before .before .before .before .pre) .1, (c .before .before .before .before .before .before .before .before .before .before .before .before .before .before .before .before .before .before .before .before .before .before .before .pre) .3 (c .before .before .before .before .before .before .before .before .before .loop .i) (omega (arith, (c .before .before .before .before .before .before .before .before .loop-test)))))
-    (λ c. omega (arith, (c .before .before .before .before .before .before .before .before .before .before .before .before .before .before .before .before .before .before .before .before .before .before .before .before .before .before .before .before .before .before .before .before .before .before .before .before .before .before .pre) .2, (c .before .before .before .before .before .before .before .before .before .before .before .before .before .before .before .before .before .before .before .before .before .before .before .loop-test)))
-    (λ c. omega (arith, (c .before .before .before .before .before .before .before .before .before .before .before .before .before .before .before .before .before .before .before .before .before .before .before .loop-test)))
-    (λ c. (omega (arith, (c .before .before .before .before .before .before .before .before .before .before .before .before .before .before .before .before .before .before .before .before .before .before .before .loop-test)), all-more ((c .before .before .before .before .before .before .before .before .before .before .before .before .before .before .before .before .before .before .before .before .before .before .before .before .loop .inv) .1) (c .before .before .before .before .before .before .before .before .before .before .before .before .before .before .objective .ensures) (omega (arith, (c .before .before .before .before .before .before .before .before .before .before .before .before .before .before .before .before .before .before .before .before .before .before .before .before .before .before .before .before .before .before .before .before .before .before .before .before .before .before .pre) .2, (c .before .before .before .before .before .before .before .before .before .before .before .before .before .before .before .before .before .before .before .before .before .before .before .loop-test), (c .before .before .before .before .before .before .before .before .before .before .before .before .before .before .before .before .before .before .before .before .before .before .before .before .before .before .before .before .before .before .before .before .before .before .before .before .before .before .good)))))
+    objective-at-requires
+    add-i
+    loop-less
+    loop-again
     (λ c. built-rows ((c .before .loop .inv) .1 .built))
     (λ c. built-cols ((c .before .loop .inv) .1 .built))
     (λ c. built-vals ((c .before .loop .inv) .1 .built))
@@ -34,4 +47,4 @@ clarabel-objective-copp3-spec =
     (λ c. built-kinds ((c .before .loop .inv) .1 .built))
     (λ c. built-dims ((c .before .loop .inv) .1 .built))
     (λ c. built-costs ((c .before .loop .inv) .1 .built))
-    (λ c. all-end ((c .before .loop .inv) .1) ((c .before .loop .inv) .0) (c .loop-test .left) (omega (arith, (c .before .before .before .before .before .before .before .before .before .before .before .before .before .before .before .pre) .2))))
+    returns)

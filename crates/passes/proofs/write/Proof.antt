@@ -9,7 +9,8 @@ use Rattle.model.specs.Standard.{standard, root}
 use Rattle.buffers.proofs.Blocks.{built-rows, built-cols, built-vals, built-right, built-kinds, built-dims, built-costs}
 use Rattle.objectives.proofs.Blocks.{built-most}
 use Rattle.passes.proofs.Whole.{whole-built}
-use Rattle.passes.proofs.Accepted.{all-ready, all-fit}
+use Rattle.linear.proofs.Fitting.{usable-fits}
+use Rattle.passes.proofs.Accepted.{all-ready}
 use Rattle.passes.proofs.write.Statement.{statement}
 use Rattle.passes.proofs.write.Tie as tie
 
@@ -21,7 +22,7 @@ pub write-spec : {M : Type 1} → statement M
 write-spec =
     tie.close
     (tie.spec
-    (λ c κs. let u = usable _ (c .before .before .before .before .before .before .before .before .before .before .before .before .before .before .before .before .before .before .before .before .before .before .before .before .before .before .before .before .before .before .before .before .before .pre) in (omega (arith, u .sized), u .sized, u .count .1, all-fit _ u, u .amax, u .acc, u .few-acc, u .jerk, u .few-jerk))
+    (λ c κs. let u = usable _ (c .before .before .before .before .before .before .before .before .before .before .before .before .before .before .before .before .before .before .before .before .before .before .before .before .before .before .before .before .before .before .before .before .before .pre) in (omega (arith, u .sized), u .sized, u .count .1, usable-fits _ u, u .amax, u .acc, u .few-acc, u .jerk, u .few-jerk))
     (λ c κs. let u = usable _ (c .before .before .before .before .before .before .before .before .before .before .before .before .before .before .before .before .before .before .before .before .before .before .before .before .before .before .before .before .before .before .before .before .before .before .before .before .before .before .before .before .before .before .before .before .before .before .before .before .before .before .before .before .before .before .before .pre) in (omega (arith, u .sized, (c .before .before .before .before .before .before .before .before .before .before .before .before .before .before .before .before .before .before .before .before .before .standard-block .ensures)), u .sized, u .count .1, all-ready _ u))
     (λ c. built-rows (returns c))
     (λ c. built-cols (returns c))

@@ -1,0 +1,17 @@
+use Rattle.buffers.proofs.Laws.{one-entry}
+use borrow.Author.Needs.{needs}
+use Rattle.buffers.proofs.put_inside.Statement.{statement}
+use Rattle.buffers.proofs.put_inside.Tie as tie
+
+pub put-inside-spec : {M : Type 1} → statement M
+put-inside-spec =
+    tie.close
+    (tie.spec
+    (λ c κs. search needs)
+    (λ c κs. search needs)
+    (λ c κs. search needs)
+    (λ c. search needs)
+    (λ c. search needs)
+    (λ c. search needs)
+    (λ c. search needs)
+    (λ c. search one-entry))

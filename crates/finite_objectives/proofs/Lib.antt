@@ -1,0 +1,2 @@
+pub mod Torque
+pub mod Costs

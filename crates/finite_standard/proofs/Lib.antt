@@ -1,0 +1,2 @@
+pub mod AccJerk
+pub mod Rows

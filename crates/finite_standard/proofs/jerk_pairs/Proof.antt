@@ -1,0 +1,32 @@
+use Prim.Native.Nat.{_-_, _≤_}
+use native.Mathlib.Omega.{arith}
+use Rattle.finiteness.proofs.Laws.{scanning, each-none, each-more, each-all}
+use Rattle.finiteness.specs.Finite.{Each}
+use Rattle.finite_standard.specs.Tests.{pairTest}
+use Rattle.finite_standard.proofs.jerk_pairs.Statement.{statement}
+use Rattle.finite_standard.proofs.jerk_pairs.Tie as tie
+
+abbrev Inv-loop : tie.InvT-loop
+Inv-loop ja jh from count ok₀ i₀ ok i = (i ≤ count) × Each ok (pairTest ja jh) from i
+
+abbrev μ-loop : tie.MeasureT-loop
+μ-loop ja jh from count ok₀ i₀ ok i = count - i
+
+pub jerk-pairs-spec : {M : Type 1} → statement M
+jerk-pairs-spec =
+    tie.close
+    (tie.spec
+    Inv-loop
+    μ-loop
+    (λ c. (omega arith, each-none))
+    (λ c. search scanning)
+    (λ c. search scanning)
+    (λ c. search scanning)
+    (λ c. search scanning)
+    (λ c. search scanning)
+    (λ c κs. search scanning)
+    (λ c κs. search scanning)
+    (λ c. search scanning)
+    (λ c. omega (arith, (c .before .before .before .before .loop-test)))
+    (λ c. (omega (arith, (c .before .before .before .before .loop-test)), each-more ((c .before .before .before .before .before .loop .inv) .1) (c .before .both-finite .ensures) (c .both .ensures)))
+    (λ c. each-all ((c .before .loop .inv) .1) ((c .before .loop .inv) .0) (c .loop-test .left)))
