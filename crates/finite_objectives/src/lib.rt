@@ -55,6 +55,7 @@ fn joints(ta: &[f64], tb: &[f64], tg: &[f64], scales: &[f64], d: usize, k: usize
     ok
 }
 
+// The same at an end, whose resting station is z.
 fn joints_end(
     ta: &[f64],
     tb: &[f64],
@@ -78,6 +79,7 @@ fn joints_end(
     ok
 }
 
+// An end with count n: its cone and its cost.
 fn thermal_end(
     ta: &[f64],
     tb: &[f64],
@@ -102,6 +104,7 @@ fn thermal_end(
     )
 }
 
+// The cones and costs of the stations that have an xi.
 fn thermal_moving(
     s: &[f64],
     e: Ends,
@@ -133,6 +136,7 @@ fn thermal_moving(
     ok
 }
 
+// ThermalEnergy.
 fn thermal_energy(
     s: &[f64],
     e: Ends,
@@ -178,6 +182,7 @@ fn step_joint(
     both(three_finite(a, a1, b), three_finite(b1, h - g, g - h))
 }
 
+// All joints between station k and the next.
 fn step_joints(ta: &[f64], tb: &[f64], tg: &[f64], scales: &[f64], d: usize, k: usize) -> bool
     requires { ⌜ Joints (now ta) (now tb) (now tg) (now scales) d (k + 1) × (k ≤ 4097) ⌝ }
     ensures { λ r. ⌜ Each r (stepTest (torqueOf d (now (ta .entry)) (now (tb .entry)) (now (tg .entry))) (now (scales .entry)) k) 0 d ⌝ }
@@ -189,6 +194,7 @@ fn step_joints(ta: &[f64], tb: &[f64], tg: &[f64], scales: &[f64], d: usize, k: 
     ok
 }
 
+// Joint i at station k next to an end, whose resting station is z.
 fn end_joint(
     ta: &[f64],
     tb: &[f64],
@@ -209,6 +215,7 @@ fn end_joint(
     both(both_finite(a, b), both_finite(g - h, h - g))
 }
 
+// All joints at an end with count n.
 fn end_joints(
     ta: &[f64],
     tb: &[f64],
@@ -232,6 +239,7 @@ fn end_joints(
     ok
 }
 
+// All moving steps.
 fn steps(s: &[f64], e: Ends, ta: &[f64], tb: &[f64], tg: &[f64], scales: &[f64], d: usize) -> bool
     requires { ⌜ Given (now s) e (now ta) (now tb) (now tg) (now scales) d ⌝ }
     ensures { λ r. ⌜ Each r (λ j. each (stepTest (torqueOf d (now (ta .entry)) (now (tb .entry)) (now (tg .entry))) (now (scales .entry)) (e .n0 + j)) 0 d) 0 (m (path (now (s .entry)) e)) ⌝ }
@@ -244,6 +252,7 @@ fn steps(s: &[f64], e: Ends, ta: &[f64], tb: &[f64], tg: &[f64], scales: &[f64],
     ok
 }
 
+// TotalVariationTorque. Every column has the same cost.
 fn total_variation_torque(
     s: &[f64],
     e: Ends,
@@ -313,6 +322,7 @@ pub fn ab_costs(
     charged_costs(s, e, r0, r1, pool, &weights, &alphas, &betas, k)
 }
 
+// One objective. Linear has no rows and no columns of its own.
 fn objective(
     s: &[f64],
     e: Ends,
@@ -347,6 +357,7 @@ fn objective(
     }
 }
 
+// All that count.
 pub fn objectives(
     s: &[f64],
     e: Ends,

@@ -23,6 +23,7 @@ use model::Ends;
 use numbers::both;
 use numbers::is_finite;
 
+// The right sides of the boundary rows; their values are constants.
 fn boundary(x: Boundary) -> bool
     ensures { λ r. ⌜ r ≡ ((finite (x .a0) && finite (x .a1)) && (finite (x .b0) && finite (x .b1))) ⌝ }
 {
@@ -43,7 +44,7 @@ fn stationary(s: &[f64], k: usize, z: usize, n: usize) -> bool
     is_finite(-1.5 * (s[k] - s[z]))
 }
 
-// The spacings.
+// The moving rows: spacings.
 fn spacings(s: &[f64], from: usize, count: usize) -> bool
     requires { ⌜ from + count < length (now s) ⌝ }
     ensures { λ r. ⌜ Each r (λ k. finite (at (now (s .entry)) (k + 1) ⊖ at (now (s .entry)) k)) from count ⌝ }
@@ -55,6 +56,7 @@ fn spacings(s: &[f64], from: usize, count: usize) -> bool
     ok
 }
 
+// Module 2: boundary, stationary and moving rows.
 fn equalities(s: &[f64], e: Ends, x: Boundary) -> bool
     requires { ⌜ Sized (now s) e ⌝ }
     ensures { λ r. ⌜ r ≡ finiteBands (equalities (path (now (s .entry)) e) x) ⌝ }
@@ -77,7 +79,7 @@ fn minimum(b: Bounds, n: usize) -> bool
     is_finite(b.minimum)
 }
 
-// The spacings, and twice the spacings.
+// The interval rows: spacings, and -2 times the spacing, which may overflow where the spacing does not.
 fn intervals(s: &[f64], from: usize, count: usize) -> bool
     requires { ⌜ from + count < length (now s) ⌝ }
     ensures { λ r. ⌜ Each r (λ k. twiceTest (at (now (s .entry)) (k + 1) ⊖ at (now (s .entry)) k)) from count ⌝ }
@@ -90,7 +92,7 @@ fn intervals(s: &[f64], from: usize, count: usize) -> bool
     ok
 }
 
-// Of the first-order rows the upper ones are there only where their bound is finite.
+// Module 3. The upper rows are there only where their bound is finite.
 fn first_order(s: &[f64], e: Ends, amax: &[f64], lo: Bounds, hi: Bounds) -> bool
     requires { ⌜ Sized (now s) e ⌝ }
     ensures { λ r. ⌜ r ≡ finiteBands (firstOrder (path (now (s .entry)) e) (limits lo hi (now (amax .entry)))) ⌝ }
@@ -137,6 +139,7 @@ fn jerk_pairs(ja: &[f64], jh: &[f64], from: usize, count: usize) -> bool
     ok
 }
 
+// Of a row the sum alone: a product that is not finite makes it not finite too.
 fn jerk_back(jb: &[f64], jc: &[f64], r: f64, from: usize, count: usize) -> bool
     requires { ⌜ (from + count ≤ length (now jb)) × (length (now jc) ≡ length (now jb)) ⌝ }
     ensures { λ u. ⌜ Each u (backTest (now (jb .entry)) (now (jc .entry)) r) from count ⌝ }
@@ -221,7 +224,7 @@ fn jerk(s: &[f64], e: Ends, counts: &[u32], ja: &[f64], jb: &[f64], jc: &[f64], 
     ok
 }
 
-// The standard rows.
+// The numbers of modules 2 to 4.
 pub fn standard_rows(
     s: &[f64],
     e: Ends,
