@@ -252,15 +252,16 @@ pub struct Assembly {
 }
 
 impl Assembly {
-    fn zeroed(counts: Counts) -> Self {
+    /// Empty vectors with room for so much.
+    pub fn with_room(counts: Counts) -> Self {
         Self {
-            rows: vec![0; counts.entries],
-            columns: vec![0; counts.entries],
-            values: vec![0.0; counts.entries],
-            right: vec![0.0; counts.rows],
-            kinds: vec![0; counts.cones],
-            dimensions: vec![0; counts.cones],
-            cost: vec![0.0; counts.columns],
+            rows: Vec::with_capacity(counts.entries),
+            columns: Vec::with_capacity(counts.entries),
+            values: Vec::with_capacity(counts.entries),
+            right: Vec::with_capacity(counts.rows),
+            kinds: Vec::with_capacity(counts.cones),
+            dimensions: Vec::with_capacity(counts.cones),
+            cost: Vec::with_capacity(counts.columns),
         }
     }
 
@@ -307,7 +308,12 @@ pub fn assemble_into(problem: &Problem, out: &mut Buffers) -> Result<Counts, Ref
 
 /// Sizes, then assembles into vectors of just these lengths.
 pub fn assemble(problem: &Problem) -> Result<Assembly, Refusal> {
-    let mut out = Assembly::zeroed(size(problem)?);
-    assemble_into(problem, &mut out.buffers())?;
+    let mut out = Assembly::with_room(size(problem)?);
+    counts(raw::assemble_reserved(
+        problem.job(),
+        problem.records(),
+        &problem.tables(),
+        &mut out,
+    ))?;
     Ok(out)
 }

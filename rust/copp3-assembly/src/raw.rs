@@ -1,9 +1,9 @@
 //! The library's C interface, and the only unsafe code of this crate.
 //!
-//! Both functions here are safe: a slice is never null, `&mut` buffers neither
+//! The functions here are safe: a slice is never null, `&mut` buffers neither
 //! overlap each other nor any table, and the library demands nothing else.
 
-use crate::{Boundary, Bounds};
+use crate::{Assembly, Boundary, Bounds};
 
 /// What the library takes by value beside the objectives.
 #[repr(C)]
@@ -85,6 +85,28 @@ pub struct Buffers<'a> {
     pub cost: &'a mut [f64],
 }
 
+/// Where a buffer begins, and its length.
+type Place<T> = (*mut T, usize);
+
+/// The seven buffers as the C interface takes them.
+struct Places {
+    rows: Place<u32>,
+    columns: Place<u32>,
+    values: Place<f64>,
+    right: Place<f64>,
+    kinds: Place<u8>,
+    dimensions: Place<u32>,
+    cost: Place<f64>,
+}
+
+fn lent<T>(buffer: &mut [T]) -> Place<T> {
+    (buffer.as_mut_ptr(), buffer.len())
+}
+
+fn reserved<T>(vector: &mut Vec<T>) -> Place<T> {
+    (vector.as_mut_ptr(), vector.capacity())
+}
+
 /// Declares both entry points over the same list of lent tables.
 macro_rules! entry_points {
     ($($table:ident $len:ident $kind:ty,)*) => {
@@ -109,19 +131,20 @@ macro_rules! entry_points {
             unsafe { copp3_size(job, objectives, $(t.$table.as_ptr(), t.$table.len(),)*) }
         }
 
-        /// Assembly into the buffers; a refusal changes none of them.
-        pub fn assemble(job: Job, objectives: Records, t: &Tables, out: &mut Buffers) -> Answer {
-            // SAFETY: as in `size`; the buffers are borrowed mutably, so nothing overlaps them.
+        /// # Safety
+        /// Each place has its length of memory of its own that may be written.
+        unsafe fn assemble_at(job: Job, objectives: Records, t: &Tables, out: Places) -> Answer {
+            // SAFETY: as in `size`, and what is asked of the places.
             unsafe {
                 copp3_assemble(
                     job, objectives, $(t.$table.as_ptr(), t.$table.len(),)*
-                    out.rows.as_mut_ptr(), out.rows.len(),
-                    out.columns.as_mut_ptr(), out.columns.len(),
-                    out.values.as_mut_ptr(), out.values.len(),
-                    out.right.as_mut_ptr(), out.right.len(),
-                    out.kinds.as_mut_ptr(), out.kinds.len(),
-                    out.dimensions.as_mut_ptr(), out.dimensions.len(),
-                    out.cost.as_mut_ptr(), out.cost.len(),
+                    out.rows.0, out.rows.1,
+                    out.columns.0, out.columns.1,
+                    out.values.0, out.values.1,
+                    out.right.0, out.right.1,
+                    out.kinds.0, out.kinds.1,
+                    out.dimensions.0, out.dimensions.1,
+                    out.cost.0, out.cost.1,
                 )
             }
         }
@@ -147,4 +170,55 @@ entry_points! {
     start_roots start_roots_len f64,
     end_roots end_roots_len f64,
     pool pool_len f64,
+}
+
+/// Assembly into the buffers; a refusal changes none of them.
+pub fn assemble(job: Job, objectives: Records, t: &Tables, out: &mut Buffers) -> Answer {
+    let places = Places {
+        rows: lent(out.rows),
+        columns: lent(out.columns),
+        values: lent(out.values),
+        right: lent(out.right),
+        kinds: lent(out.kinds),
+        dimensions: lent(out.dimensions),
+        cost: lent(out.cost),
+    };
+    // SAFETY: the buffers are borrowed mutably, so nothing overlaps them.
+    unsafe { assemble_at(job, objectives, t, places) }
+}
+
+/// Assembly into what the vectors have reserved, which need not be zeroed: after
+/// acceptance they have just the lengths of what was written. A refusal changes nothing.
+pub fn assemble_reserved(job: Job, objectives: Records, t: &Tables, out: &mut Assembly) -> Answer {
+    let places = Places {
+        rows: reserved(&mut out.rows),
+        columns: reserved(&mut out.columns),
+        values: reserved(&mut out.values),
+        right: reserved(&mut out.right),
+        kinds: reserved(&mut out.kinds),
+        dimensions: reserved(&mut out.dimensions),
+        cost: reserved(&mut out.cost),
+    };
+    // SAFETY: a vector owns what it has reserved, and all are borrowed mutably.
+    let answer = unsafe { assemble_at(job, objectives, t, places) };
+    if answer.number == 0 {
+        let [entries, rows, cones, columns] = [
+            answer.entries as usize,
+            answer.rows as usize,
+            answer.cones as usize,
+            answer.columns as usize,
+        ];
+        // SAFETY: proved of the library: after acceptance every place below these counts was
+        // written, and each buffer has them, since a shorter one is refused as 19.
+        unsafe {
+            out.rows.set_len(entries);
+            out.columns.set_len(entries);
+            out.values.set_len(entries);
+            out.right.set_len(rows);
+            out.kinds.set_len(cones);
+            out.dimensions.set_len(cones);
+            out.cost.set_len(columns);
+        }
+    }
+    answer
 }
