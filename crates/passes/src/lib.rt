@@ -14,7 +14,7 @@ use model::Objective;
 use model::Tally;
 use numbers::both;
 
-// Whether every number to be written is finite (20). Each is looked at once, however often it is written.
+// Whether every number to be written is finite (20), told from grid and tables: a number that stands in several rows is not tested for each of them.
 pub fn every_number(
     job: Job,
     os: [Objective; 16],
