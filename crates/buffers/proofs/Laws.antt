@@ -50,7 +50,7 @@ right-append xs bs = joined-append (λ b. list (b .right) 0 (b .height)) xs bs
 
 -- ---- flags
 
-and-assoc : (a b c : Bool) → (a && b && c) ≡ (a && (b && c))
+pub and-assoc : (a b c : Bool) → (a && b && c) ≡ (a && (b && c))
 and-assoc true b c = refl
 and-assoc false b c = refl
 

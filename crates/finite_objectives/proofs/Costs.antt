@@ -16,7 +16,8 @@ use Rattle.model.specs.Assembled.{width, objectiveBlocks, bands, cost, allFinit
 use Rattle.model.specs.declared.Objective.{Objective}
 use Rattle.model.specs.declared.Objective.the-variants.{Time, Linear}
 use Rattle.finiteness.specs.Finite.{each, Each, finiteBands, finiteBlock, finiteBlocks}
-use Rattle.finiteness.proofs.Laws.{and-assoc, and-true, each-same, costs-finite, each-true, positives, constants}
+use Rattle.buffers.proofs.Laws.{and-assoc}
+use Rattle.finiteness.proofs.Laws.{and-true, each-same, list-finite, each-true, positives, constants}
 
 time-cone : (q : Path) (c j : ℕ) → finiteBands (timeCone q c j .bands) ≡ true
 unfolding timeCone ofBits neg
@@ -25,7 +26,7 @@ time-cone q c j = refl
 pub time-scanned : (q : Path) (w : Float) (c : ℕ) {r : Bool} → Each r (λ j. finite (w ⊗ timeWeight q (skip q + j))) 0 (L q) → r ≡ finiteBlock (timeBlock q w c)
 unfolding timeBlock
 time-scanned q w c p =
-    p .says ∙ sym (costs-finite (λ j. w ⊗ timeWeight q (skip q + j)) 0 (L q))
+    p .says ∙ sym (list-finite (λ j. w ⊗ timeWeight q (skip q + j)) 0 (L q))
     ∙ ap (λ (x : Bool). x && allFinite (list (λ j. w ⊗ timeWeight q (skip q + j)) 0 (L q)))
     (sym (constants (list (λ j. positiveRow (c + j)) 0 (L q)) (timeCone q c) (L q) (positives (λ j. c + j) 0 (L q)) (time-cone q c)))
 
@@ -33,11 +34,11 @@ time-scanned q w c p =
 
 pub ab-zero : {f : ℕ → Float} (k c : ℕ) → ((j : ℕ) → +0 ≡ f j) → true ≡ allFinite (list f k c)
 unfolding ofBits
-ab-zero {f} k c h = sym (costs-finite f k c ∙ each-true (λ j. finite (f j)) k c (λ j. ap finite (sym (h j))))
+ab-zero {f} k c h = sym (list-finite f k c ∙ each-true (λ j. finite (f j)) k c (λ j. ap finite (sym (h j))))
 
 pub ab-scanned : {f g : ℕ → Float} {r : Bool} {c d : ℕ} → Each r (λ j. finite (f j)) 0 c → ((j : ℕ) → f j ≡ g j) → c ≡ d → r ≡ allFinite (list g 0 d)
 ab-scanned {f} {g} {c} {d} p h e =
-    p .says ∙ each-same (λ j. finite (f j)) (λ j. finite (g j)) 0 c (λ j. ap finite (h j)) ∙ ap (each (λ j. finite (g j)) 0) e ∙ sym (costs-finite g 0 d)
+    p .says ∙ each-same (λ j. finite (f j)) (λ j. finite (g j)) 0 c (λ j. ap finite (h j)) ∙ ap (each (λ j. finite (g j)) 0) e ∙ sym (list-finite g 0 d)
 
 -- ---- objectives
 

@@ -15,11 +15,11 @@ use Rattle.model.specs.Problem.{Path, Torque, stop, skip, m, n, L, ends, flag}
 use Rattle.model.specs.Program.{Cone}
 use Rattle.model.specs.Assembled.{allFinite}
 use Rattle.model.specs.Objectives.{endTorqueRows, stepTorqueRows, torqueBlock, thermalCone, thermalBlock}
-use Rattle.buffers.proofs.Laws.{all-append}
+use Rattle.buffers.proofs.Laws.{and-assoc, all-append}
 use Rattle.finiteness.specs.Finite.{each, Each, ifTest, finiteBands, finiteCones, finiteBlock}
 use Rattle.finite_objectives.specs.Tests.{times, jointTest, jointEndTest, thermalEnd, thermalAt, stepTest, endTest}
 use Rattle.finiteness.proofs.Floats.{finite-neg}
-use Rattle.finiteness.proofs.Laws.{and-assoc, and-true, and-swap, each-same, each-and, finite-append, finite-over, cones-append, costs-finite, finite-given, list-cones}
+use Rattle.finiteness.proofs.Laws.{and-true, and-swap, each-same, each-and, finite-append, finite-over, cones-append, list-finite, finite-given, list-cones}
 
 pub row-next : (k d : ℕ) → (k + 1) * d ≡ k * d + d
 row-next k d = ap (λ (j : ℕ). j * d) (add-one k) ∙ suc-mul k d
@@ -198,7 +198,7 @@ thermal-scanned q x weights w y c {f} {g} {r} first second rest =
     rest .says ∙ each-and (λ j. each (jointTest x y (skip q + j)) 0 d) (λ j. finite (zj j)) 0 (L q)
     ∙ ap₂ (λ (a b : Bool). a && b)
     (each-same (λ j. each (jointTest x y (skip q + j)) 0 d) (λ j. finiteBands (cj j .bands)) 0 (L q) (λ j. sym (cone-moving q x y (c + ends q + j) j (skip q + j))) ∙ sym (list-cones cj 0 (L q)))
-    (sym (costs-finite zj 0 (L q))) in
+    (sym (list-finite zj 0 (L q))) in
     ap₂ (λ (a b : Bool). a && b) (ap₂ (λ (a b : Bool). a && b) one two ∙ and-swap C0 K0 C1 K1) three
     ∙ and-swap (C0 && C1) (K0 && K1) CL KL
     ∙ ap₂ (λ (a b : Bool). a && b)

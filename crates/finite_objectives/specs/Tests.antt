@@ -40,5 +40,5 @@ stepTest x y k i =
     && (finite (times (x .g) y (x .d) (k + 1) i ⊖ times (x .g) y (x .d) k i) && finite (times (x .g) y (x .d) k i ⊖ times (x .g) y (x .d) (k + 1) i)))
 
 -- what a scan of the joints of station k needs
-abbrev pub Joints : List Float → List Float → List Float → List Float → ℕ → ℕ → Type 0
-Joints a b g scales d k = (k * d + d ≤ length a) × (length b ≡ length a) × (length g ≡ length a) × (length scales ≡ d)
+abbrev pub JointsAt : List Float → List Float → List Float → List Float → ℕ → ℕ → Type 0
+JointsAt a b g scales d k = (k * d + d ≤ length a) × (length b ≡ length a) × (length g ≡ length a) × (length scales ≡ d)

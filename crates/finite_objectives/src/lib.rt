@@ -12,7 +12,7 @@ ghost use Rattle.model.specs.Problem.{m, n, skip, L};
 ghost use Rattle.model.specs.Objectives.{torqueBlock, thermalBlock, objectiveBlock, timeBlock};
 ghost use Rattle.buffers.specs.Inputs.{path, Sized, torqueOf};
 ghost use Rattle.torque.specs.Given.{Given};
-ghost use Rattle.finite_objectives.specs.Tests.{Joints, jointTest, jointEndTest, thermalEnd, thermalAt, stepTest, endTest};
+ghost use Rattle.finite_objectives.specs.Tests.{JointsAt, jointTest, jointEndTest, thermalEnd, thermalAt, stepTest, endTest};
 ghost use Rattle.finiteness.specs.Finite.{each, Each, ifTest, finiteBlock, finiteBlocks};
 ghost use Rattle.model.specs.Assembled.{objectiveBlocks, cost, allFinite};
 ghost use Rattle.model.specs.declared.Objective.the-variants.{Time};
@@ -42,7 +42,7 @@ fn time(s: &[f64], e: Ends, w: f64) -> bool
 
 // ThermalEnergy: the joints at station k.
 fn joints(ta: &[f64], tb: &[f64], tg: &[f64], scales: &[f64], d: usize, k: usize) -> bool
-    requires { ⌜ Joints (now ta) (now tb) (now tg) (now scales) d k ⌝ }
+    requires { ⌜ JointsAt (now ta) (now tb) (now tg) (now scales) d k ⌝ }
     ensures { λ r. ⌜ Each r (jointTest (torqueOf d (now (ta .entry)) (now (tb .entry)) (now (tg .entry))) (now (scales .entry)) k) 0 d ⌝ }
 {
     let mut ok = true;
@@ -65,7 +65,7 @@ fn joints_end(
     k: usize,
     z: usize,
 ) -> bool
-    requires { ⌜ Joints (now ta) (now tb) (now tg) (now scales) d k × Joints (now ta) (now tb) (now tg) (now scales) d z ⌝ }
+    requires { ⌜ JointsAt (now ta) (now tb) (now tg) (now scales) d k × JointsAt (now ta) (now tb) (now tg) (now scales) d z ⌝ }
     ensures { λ r. ⌜ Each r (jointEndTest (torqueOf d (now (ta .entry)) (now (tb .entry)) (now (tg .entry))) (now (scales .entry)) k z) 0 d ⌝ }
 {
     let mut ok = true;
@@ -92,7 +92,7 @@ fn thermal_end(
     z: usize,
     n: usize,
 ) -> bool
-    requires { ⌜ Joints (now ta) (now tb) (now tg) (now scales) d k × Joints (now ta) (now tb) (now tg) (now scales) d z × (z < length (now weights)) ⌝ }
+    requires { ⌜ JointsAt (now ta) (now tb) (now tg) (now scales) d k × JointsAt (now ta) (now tb) (now tg) (now scales) d z × (z < length (now weights)) ⌝ }
     ensures { λ r. ⌜ r ≡ ifTest (ltb 0 n) (thermalEnd (torqueOf d (now (ta .entry)) (now (tb .entry)) (now (tg .entry))) (now (scales .entry)) (now (weights .entry)) w k z) ⌝ }
 {
     if n == 0 {
@@ -170,7 +170,7 @@ fn step_joint(
     k: usize,
     i: usize,
 ) -> bool
-    requires { ⌜ Joints (now ta) (now tb) (now tg) (now scales) d (k + 1) × (i < d) × (k ≤ 4097) ⌝ }
+    requires { ⌜ JointsAt (now ta) (now tb) (now tg) (now scales) d (k + 1) × (i < d) × (k ≤ 4097) ⌝ }
     ensures { λ r. ⌜ r ≡ stepTest (torqueOf d (now (ta .entry)) (now (tb .entry)) (now (tg .entry))) (now (scales .entry)) k i ⌝ }
 {
     let a = torque::scaled(ta, scales, d, k, i);
@@ -184,7 +184,7 @@ fn step_joint(
 
 // All joints between station k and the next.
 fn step_joints(ta: &[f64], tb: &[f64], tg: &[f64], scales: &[f64], d: usize, k: usize) -> bool
-    requires { ⌜ Joints (now ta) (now tb) (now tg) (now scales) d (k + 1) × (k ≤ 4097) ⌝ }
+    requires { ⌜ JointsAt (now ta) (now tb) (now tg) (now scales) d (k + 1) × (k ≤ 4097) ⌝ }
     ensures { λ r. ⌜ Each r (stepTest (torqueOf d (now (ta .entry)) (now (tb .entry)) (now (tg .entry))) (now (scales .entry)) k) 0 d ⌝ }
 {
     let mut ok = true;
@@ -205,7 +205,7 @@ fn end_joint(
     z: usize,
     i: usize,
 ) -> bool
-    requires { ⌜ Joints (now ta) (now tb) (now tg) (now scales) d k × Joints (now ta) (now tb) (now tg) (now scales) d z × (i < d) ⌝ }
+    requires { ⌜ JointsAt (now ta) (now tb) (now tg) (now scales) d k × JointsAt (now ta) (now tb) (now tg) (now scales) d z × (i < d) ⌝ }
     ensures { λ r. ⌜ r ≡ endTest (torqueOf d (now (ta .entry)) (now (tb .entry)) (now (tg .entry))) (now (scales .entry)) k z i ⌝ }
 {
     let a = torque::scaled(ta, scales, d, k, i);
@@ -226,7 +226,7 @@ fn end_joints(
     z: usize,
     n: usize,
 ) -> bool
-    requires { ⌜ Joints (now ta) (now tb) (now tg) (now scales) d k × Joints (now ta) (now tb) (now tg) (now scales) d z ⌝ }
+    requires { ⌜ JointsAt (now ta) (now tb) (now tg) (now scales) d k × JointsAt (now ta) (now tb) (now tg) (now scales) d z ⌝ }
     ensures { λ r. ⌜ r ≡ ifTest (ltb 0 n) (each (endTest (torqueOf d (now (ta .entry)) (now (tb .entry)) (now (tg .entry))) (now (scales .entry)) k z) 0 d) ⌝ }
 {
     if n == 0 {

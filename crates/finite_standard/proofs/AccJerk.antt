@@ -15,7 +15,7 @@ use Rattle.model.specs.Lists.{list, over, given, total}
 use Rattle.model.specs.Problem.{Path, Acceleration, Jerk, spacing, stop, n}
 use Rattle.model.specs.Program.{Band}
 use Rattle.model.specs.Standard.{accelerationRows, backwardRows, forwardRows, jerkRowsAt}
-use Rattle.acc_jerk.proofs.Sums.{before-next}
+use Rattle.acc_jerk.proofs.Sums.{before-next, before-rises}
 use Rattle.finiteness.specs.Finite.{each, Each, ifTest, finiteBand, finiteBands}
 use Rattle.finite_standard.specs.Tests.{accTest, pairTest, backTest, aheadTest, backAt, aheadAt}
 use Rattle.finiteness.proofs.Floats.{product-neg, sum-tells, difference-tells}
@@ -57,21 +57,6 @@ groups false false f g s u v h a b = cc
 
 -- ---- acceleration
 
-place : List ℕ → ℕ → ℕ
-place cs k = total (take k cs)
-
-mono : (cs : List ℕ) (k c : ℕ) → total (take k cs) ≤ total (take (k + c) cs)
-mono [] zero c = omega arith
-mono [] (suc k) c = omega arith
-mono (x ∷ cs) zero c = omega arith
-mono (x ∷ cs) (suc k) c = rw suc-add (let e = mono cs k c in omega arith)
-
-pub upto : (cs : List ℕ) (k j : ℕ) → k ≤ j → {x : ℕ} → x ≡ total (take j cs) → total (take k cs) ≤ x
-upto cs k j l {x} e =
-    let d : k + (j - k) ≡ j = omega arith in
-    let up = mono cs k (j - k) in
-    omega (arith, ap (λ (i : ℕ). total (take i cs)) d)
-
 module _ (q : Path) (t : Acceleration) where
   acc-one : (k : ℕ) → finiteBand (accelerationRows q t k) ≡ each (accTest (t .a) (t .b) (t .max)) (total (take k (t .counts))) (getD (t .counts) k 0)
   unfolding accelerationRows
@@ -94,7 +79,7 @@ module _ (q : Path) (t : Acceleration) where
       let next : total (take (suc k) cs) ≡ total (take k cs) + h = ap (λ (j : ℕ). total (take j cs)) (sym (add-one k)) ∙ before-next cs k (omega arith) in
       let far : total (take (suc k + c) cs) ≡ total (take (k + suc c) cs) = ap (λ (j : ℕ). total (take j cs)) (suc-add k c ∙ sym (add-suc k c)) in
       let y = total (take (suc k + c) cs) - total (take (suc k) cs) in
-      let up : total (take (suc k) cs) ≤ total (take (suc k + c) cs) = mono cs (suc k) c in
+      let up : total (take (suc k) cs) ≤ total (take (suc k + c) cs) = before-rises cs (suc k) c in
       let split : x ≡ h + y = omega arith in
       let rest = acc-rows (suc k) c y (omega arith) (omega arith) in
       ap₂ (λ (a b : Bool). a && b) (acc-one k) (rest ∙ ap (λ (j : ℕ). each f j y) next)
@@ -104,7 +89,7 @@ module _ (q : Path) (t : Acceleration) where
   pub acc-scanned : (k c : ℕ) {a b : ℕ} {r : Bool} → a ≡ total (take k (t .counts)) → b ≡ total (take (k + c) (t .counts)) → k + c ≤ length (t .counts)
       → Each r (accTest (t .a) (t .b) (t .max)) a (b - a) → r ≡ finiteBands (list (accelerationRows q t) k c)
   acc-scanned k c {a} {b} f g l p =
-      let up = mono (t .counts) k c in
+      let up = before-rises (t .counts) k c in
       p .says
       ∙ ap (λ (j : ℕ). each (accTest (t .a) (t .b) (t .max)) j (b - a)) f
       ∙ sym (acc-rows k c (b - a) l (omega arith))
@@ -162,8 +147,8 @@ module _ (q : Path) (t : Jerk) (k : ℕ) where
       groups (ltb (q .N0) k) (ltb k (stop q)) (backwardRows q t k) (forwardRows q t k) (each (pairTest (t .a) (t .max)) o h)
       (each (backTest (t .b) (t .c) (+1 ⊘ spacing q (k - 1))) o h) (each (aheadTest (t .b) (t .c) (+1 ⊘ spacing q k)) o h) (either (q .N0) k (stop q) l) back-band ahead-band in
       z ∙ rw (p .says, g, j, e, f) (sym one)
-  -- over the moving stations
 
+-- over the moving stations
 pub over-scanned : (f : ℕ → List Band) {r : Bool} {k c : ℕ} → Each r (λ i. finiteBands (f i)) k c → r ≡ finiteBands (over f k c)
 over-scanned f {k} {c} p = p .says ∙ sym (finite-over f k c)
 

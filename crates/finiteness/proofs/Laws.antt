@@ -13,14 +13,10 @@ use Rattle.model.specs.Numbers.{finite, +0}
 use Rattle.model.specs.Lists.{list, over, given, joined}
 use Rattle.model.specs.Program.{Cell, Band, Cone, Block, entry, positiveRow, bandEntries, entriesFrom, rightSides}
 use Rattle.model.specs.Assembled.{allFinite}
-use Rattle.buffers.proofs.Laws.{all-append, joined-append}
+use Rattle.buffers.proofs.Laws.{and-assoc, all-append, joined-append}
 use Rattle.finiteness.specs.Finite.{each, Each, ifTest, finiteColumns, finiteBand, finiteBands, finiteCones, finiteBlock, finiteBlocks}
 
 -- ---- flags
-
-pub and-assoc : (a b c : Bool) → ((a && b) && c) ≡ (a && (b && c))
-and-assoc true b c = refl
-and-assoc false b c = refl
 
 pub and-true : (b : Bool) → (b && true) ≡ b
 and-true true = refl
@@ -97,7 +93,7 @@ list-cones f k (suc c) = finite-append (f k .bands) (joined (λ c. c .bands) (li
 
 -- ---- the lists of the definition
 
-list-finite : (f : ℕ → Float) (k c : ℕ) → allFinite (list f k c) ≡ each (λ i. finite (f i)) k c
+pub list-finite : (f : ℕ → Float) (k c : ℕ) → allFinite (list f k c) ≡ each (λ i. finite (f i)) k c
 list-finite f k zero = refl
 list-finite f k (suc c) = ap (λ (x : Bool). finite (f k) && x) (list-finite f (suc k) c)
 
@@ -118,9 +114,6 @@ bands-finite r (b ∷ bs) =
     (and-swap (allFinite (map (λ e. e .value) (bandEntries r b))) (allFinite (map (λ e. e .value) (entriesFrom (r + b .height) bs))) (allFinite (list (b .right) 0 (b .height))) (allFinite (rightSides bs))
     ∙ ap₂ (λ (x y : Bool). x && y)
     (ap₂ (λ (x y : Bool). x && y) (columns-finite r (b .columns) (b .height)) (list-finite (b .right) 0 (b .height))) (bands-finite (r + b .height) bs))
-
-pub costs-finite : (f : ℕ → Float) (k c : ℕ) → allFinite (list f k c) ≡ each (λ i. finite (f i)) k c
-costs-finite = list-finite
 
 -- of blocks
 pub blocks-finite : (bs : List Block) → (finiteCones (joined (λ b. b .cones) bs) && allFinite (joined (λ b. b .cost) bs)) ≡ finiteBlocks bs

@@ -60,8 +60,11 @@ roomRefusal t have =
     short i need = ltb (getD have i 0) need
 
 -- 20: "a number to be written to values, right side or cost is not finite"
+abbrev pub everyFinite : Problem → Bool
+everyFinite p = allFinite (values p) && allFinite (rightSide p) && allFinite (cost p)
+
 unfoldable pub finiteRefusal : Problem → Verdict
-finiteRefusal p = refuse 20 0 (not (allFinite (values p) && allFinite (rightSide p) && allFinite (cost p)))
+finiteRefusal p = refuse 20 0 (not (everyFinite p))
 
 -- "Acceptance writes from index 0 and changes nothing past the counts it reports."
 abbrev pub onto : {A : Type 0} → List A → List A → List A

@@ -13,7 +13,7 @@ use Rattle.model.specs.Assembled.{cones, bands, entries, rightSide, cost, rowNu
 use Rattle.model.specs.Counts.{counts}
 use Rattle.model.specs.Verdicts.{_then_, refuse}
 use Rattle.model.specs.Refusals.{refusal}
-use Rattle.model.specs.Answers.{Buffers, told, outcome, lengths, roomRefusal, finiteRefusal, verdictOf, written, assembly}
+use Rattle.model.specs.Answers.{Buffers, told, outcome, lengths, roomRefusal, everyFinite, finiteRefusal, verdictOf, written, assembly}
 use Rattle.model.specs.Answers as answers
 use Rattle.model.specs.declared.Verdict.{Verdict}
 use Rattle.model.specs.declared.Verdict.the-variants.{Accepted, Refused}
@@ -23,7 +23,7 @@ use Rattle.model.specs.declared.Tally.{Tally}
 use Rattle.model.proofs.Passes.{then-passes}
 use Rattle.model.proofs.Room.{Enough, room-passes}
 use Rattle.buffers.specs.Buffers.{state, emit, Built}
-use Rattle.passes.specs.Program.{everyFinite, whole, start, finished, buffers, answered}
+use Rattle.passes.specs.Program.{whole, start, finished, buffers, answered}
 
 sets-front {ℓ} : {A : Type ℓ} (l vs : List A) → length vs ≤ length l → sets l 0 vs ≡ vs ++ drop (length vs) l
 sets-front l vs h = sets-eq vs l 0 (rw zero-add h) ∙ ap (λ k. vs ++ drop k l) (zero-add (length vs))

@@ -8,6 +8,7 @@ use Rattle.model.specs.Lists.{list, joined}
 use Rattle.model.specs.Problem.{Problem, Path, objectives, n, L, s, hasRoot}
 use Rattle.model.specs.Program.{Cone, positiveRow, nothing}
 use Rattle.model.specs.Standard.{rootCone, rootStage, standard, root}
+use Rattle.model.specs.Answers.{everyFinite}
 use Rattle.model.specs.Assembled.{width, objectiveBlocks, blocks, cones, bands, entries, rightSide, values, cost, allFinite}
 use Rattle.model.specs.declared.Objective.{Objective}
 use Rattle.model.proofs.Sizes.{Sizes}
@@ -18,7 +19,6 @@ use Rattle.linear.proofs.Cost.{endsOf, cost-as-columns}
 use Rattle.objectives.proofs.Blocks.{same-all-cones, same-all-cost}
 use Rattle.finiteness.specs.Finite.{finiteBands, finiteCones, finiteBlock, finiteBlocks}
 use Rattle.finiteness.proofs.Laws.{and-true, bands-finite, blocks-finite, positives, constants, zeros}
-use Rattle.passes.specs.Program.{everyFinite}
 use Rattle.passes.proofs.Whole.{seen}
 
 root-cone : (q : Path) (j : ℕ) → finiteBands (rootCone q j .bands) ≡ true

@@ -1,12 +1,11 @@
--- The assembled program as one block, the test of its numbers, the tally before it, and the records of the answer by position.
-use mathlib.Core.Bool.{Bool, _&&_}
+-- The assembled program as one block, the tally before it, and the records of the answer by position.
 use mathlib.Core.List.{List, []}
 use Prim.Native.Nat.{ℕ}
 use lib.Ieee.{Float}
 use lib.ListN.{length}
 use Rattle.model.specs.Problem.{Problem}
 use Rattle.model.specs.Program.{Block}
-use Rattle.model.specs.Assembled.{cones, entries, rightSide, values, cost, allFinite}
+use Rattle.model.specs.Assembled.{cones, entries, rightSide, cost}
 use Rattle.model.specs.Answers.{Buffers, Result, told}
 use Rattle.model.specs.declared.Answer.{Answer}
 use Rattle.model.specs.declared.Tally.{Tally}
@@ -14,10 +13,6 @@ use Rattle.model.specs.declared.Tally.{Tally}
 -- all cones and the cost of all columns; what objectives charge is in the cost
 abbrev pub whole : Problem → Block
 whole p = record { cones = cones p; cost = cost p; charges = [] }
-
--- refusal 20's test: every number to be written is finite
-abbrev pub everyFinite : Problem → Bool
-everyFinite p = allFinite (values p) && allFinite (rightSide p) && allFinite (cost p)
 
 abbrev pub start : Tally
 start = record { entries = 0; rows = 0; cones = 0; columns = 0 }

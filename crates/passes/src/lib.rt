@@ -3,9 +3,10 @@
 ghost use mathlib.Core.Path.{_≡_};
 ghost use Rattle.model.specs.Problem.{problem};
 ghost use Rattle.model.specs.Refusals.{refusal};
+ghost use Rattle.model.specs.Answers.{everyFinite};
 ghost use Rattle.model.specs.declared.Verdict.the-variants.{Accepted};
 ghost use Rattle.buffers.specs.Lent.{built};
-ghost use Rattle.passes.specs.Program.{everyFinite, whole, start};
+ghost use Rattle.passes.specs.Program.{whole, start};
 use blocks::objective_blocks;
 use blocks::standard_block;
 use finite_standard::standard_rows;

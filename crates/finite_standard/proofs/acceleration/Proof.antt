@@ -5,8 +5,8 @@ use Prim.Native.Nat.{_+_, _-_}
 use Rattle.model.specs.Problem.{m}
 use Rattle.buffers.specs.Inputs.{path}
 use Rattle.acc_jerk.specs.Tables.{accOf}
-use Rattle.acc_jerk.proofs.Sums.{before-below, same-place}
-use Rattle.finite_standard.proofs.AccJerk.{acc-scanned, upto}
+use Rattle.acc_jerk.proofs.Sums.{before-below, before-upto, same-place}
+use Rattle.finite_standard.proofs.AccJerk.{acc-scanned}
 use borrow.Author.Needs.{needs}
 use Rattle.finite_standard.proofs.acceleration.Statement.{statement}
 use Rattle.finite_standard.proofs.acceleration.Tie as tie
@@ -24,6 +24,6 @@ acceleration-spec =
     (λ c. search needs)
     (λ c. search needs)
     (λ c κs. omega (arith, (c .before .before .before .before .before .before .before .before .pre), (c .before .before .before .before .before .before .before .before .good)))
-    (λ c. let a = (c .before .before .before .before .before .before .before .before .before .args) in omega (arith, (c .before .before .offset .ensures), upto (now (a .counts)) (a .e .n0 + 1) (length (now (a .s)) - 1 - a .e .n1) (omega (arith, (c .before .before .before .before .before .before .before .before .before .pre))) (c .offset2 .ensures)))
-    (λ c κs. let a = (c .before .before .before .before .before .before .before .before .before .args) in omega (arith, (c .before .before .before .before .before .before .before .before .before .pre), (c .before .before .offset .ensures), (c .offset2 .ensures), upto (now (a .counts)) (a .e .n0 + 1) (length (now (a .s)) - 1 - a .e .n1) (omega (arith, (c .before .before .before .before .before .before .before .before .before .pre))) (c .offset2 .ensures), before-below (now (a .counts)) (length (now (a .s)) - 1 - a .e .n1)))
+    (λ c. let a = (c .before .before .before .before .before .before .before .before .before .args) in omega (arith, (c .before .before .offset .ensures), before-upto (now (a .counts)) (a .e .n0 + 1) (length (now (a .s)) - 1 - a .e .n1) (omega (arith, (c .before .before .before .before .before .before .before .before .before .pre))) (c .offset2 .ensures)))
+    (λ c κs. let a = (c .before .before .before .before .before .before .before .before .before .args) in omega (arith, (c .before .before .before .before .before .before .before .before .before .pre), (c .before .before .offset .ensures), (c .offset2 .ensures), before-upto (now (a .counts)) (a .e .n0 + 1) (length (now (a .s)) - 1 - a .e .n1) (omega (arith, (c .before .before .before .before .before .before .before .before .before .pre))) (c .offset2 .ensures), before-below (now (a .counts)) (length (now (a .s)) - 1 - a .e .n1)))
     returns)
