@@ -15,7 +15,7 @@ use raw::{Answer, Job, Record, Records, Tables};
 use std::ops::Range;
 
 pub use raw::Buffers;
-pub use refusal::{End, Refusal};
+pub use refusal::{End, Refusal, TABLES};
 
 /// The states at both ends of the path.
 #[repr(C)]

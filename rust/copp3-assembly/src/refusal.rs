@@ -152,7 +152,8 @@ const BUFFERS: [&str; 7] = [
     "cone dimensions",
     "cost",
 ];
-const TABLES: [&str; 16] = [
+/// Document 01's tables 0 to 15, by name.
+pub const TABLES: [&str; 16] = [
     "acceleration row counts",
     "jerk row counts",
     "amax",

@@ -2,6 +2,7 @@
 
 use crate::generate::{Present, present};
 use crate::rng::Rng;
+use copp3_assembly::TABLES;
 use reference::sample::Sample;
 use reference::{Objective, Part};
 
@@ -103,29 +104,15 @@ pub const BOTH: Torques = Torques {
     variation: true,
 };
 
+/// Document 01's name of a table, as classes are called.
+pub fn table_name(table: usize) -> &'static str {
+    TABLES[table]
+}
+
 impl Torques {
     pub fn holds(&self, shape: &Shape) -> bool {
         shape.has.thermal == self.thermal && shape.has.variation == self.variation
     }
-}
-
-/// Document 01's names of tables 3 to 15, as classes are called.
-pub fn table_name(table: usize) -> &'static str {
-    [
-        "acc a",
-        "acc b",
-        "acc max",
-        "jerk a",
-        "jerk b",
-        "jerk c",
-        "jerk max",
-        "thermal weight",
-        "torque a",
-        "torque b",
-        "torque g",
-        "start root",
-        "end root",
-    ][table - 3]
 }
 
 /// How many numbers of a table (2 to 13) belong to a station.
