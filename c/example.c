@@ -9,7 +9,7 @@
 
 #define STATIONS 3
 
-/* Case A: grid 0, 1, 2, everything else 0 or unlimited, one Time of weight 1. */
+/* Case A: grid 0, 1, 2, everything else 0 or unlimited, one Time of weight 1. It has no feasible point, so do not try a solver on it. */
 static const double grid[STATIONS] = {0.0, 1.0, 2.0};
 static const uint32_t no_rows[STATIONS] = {0, 0, 0};
 static const double amax[STATIONS] = {INFINITY, INFINITY, INFINITY};

@@ -18,7 +18,7 @@ use Rattle.model.specs.Objectives.{endTorqueRows, stepTorqueRows, torqueBlock, 
 use Rattle.buffers.proofs.Laws.{and-assoc, all-append}
 use Rattle.finiteness.specs.Finite.{each, Each, ifTest, finiteBands, finiteCones, finiteBlock}
 use Rattle.finite_objectives.specs.Tests.{times, jointTest, jointEndTest, thermalEnd, thermalAt, stepTest, endTest}
-use Rattle.finiteness.proofs.Floats.{finite-neg}
+use Rattle.model.proofs.Values.{finite-neg}
 use Rattle.finiteness.proofs.Laws.{and-true, and-swap, each-same, each-and, finite-append, finite-over, cones-append, list-finite, finite-given, list-cones}
 
 pub row-next : (k d : ℕ) → (k + 1) * d ≡ k * d + d

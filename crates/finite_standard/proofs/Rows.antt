@@ -16,7 +16,7 @@ use Rattle.model.specs.declared.Bounds.{Bounds}
 use Rattle.standard.specs.Block.{standardCones}
 use Rattle.finiteness.specs.Finite.{each, Each, ifTest, finiteBands, finiteCones}
 use Rattle.finite_standard.specs.Tests.{twiceTest}
-use Rattle.finiteness.proofs.Floats.{finite-neg}
+use Rattle.model.proofs.Values.{finite-neg}
 use Rattle.finiteness.proofs.Laws.{and-true, each-same, each-from, finite-append, finite-over, finite-given, each-true, positives}
 
 -- ---- equalities and first-order rows

@@ -1,33 +1,21 @@
 -- What a test of one number says of another: a sign plays no part, and what is not finite makes sums and differences not finite. Assumes nothing.
 use mathlib.Core.Path.{_≡_, refl, sym, ap, _∙_}
-use mathlib.Core.Bool.{Bool, true, false, not, cond, _&&_}
-use Prim.Native.Nat.{ℕ, zero, suc, _+_, _-_, _*_, _/_, _%_, _^_, compare}
-use lib.Dec.{ltb}
-use lib.Ieee.{Float, Format, nan, inf, fin, binary64, neg, add, sub, mul, prec, emax, low, size, nearest, odd, units, round, up, down, unlike}
+use mathlib.Core.Bool.{Bool, true, false, not, cond, _&&_, false≢true}
+use Prim.Native.Nat.{ℕ, _*_}
+use lib.Ieee.{Float, nan, inf, fin, binary64, neg, mul, round, up, down, unlike}
 use Rattle.model.specs.Numbers.{finite, _⊕_, _⊖_, _⊗_}
+use Rattle.model.proofs.Opposite.{round-opposite}
+use Rattle.model.proofs.Values.{finite-neg, add-finite, sub-finite}
 
 -- the sign plays no part
-pub finite-neg : (x : Float) → finite (neg x) ≡ finite x
-unfolding neg
-finite-neg nan = refl
-finite-neg (inf s) = refl
-finite-neg (fin s m e) = refl
-
-units-sign : (f : Format) (s t : Bool) (q k : ℕ) → finite (units f s q k) ≡ finite (units f t q k)
-unfolding units odd
-units-sign f s t q k = go q (ltb (q * 2 ^ k) (2 ^ (low f + suc (emax f)))) where
-  go : (q : ℕ) (b : Bool) → finite (cond b (odd (suc (prec f)) s q k (low f)) (inf s)) ≡ finite (cond b (odd (suc (prec f)) t q k (low f)) (inf t))
-  go zero true = refl
-  go (suc q) true = refl
-  go q false = refl
+round-minus : (a c : ℕ) → finite (round binary64 true a c) ≡ finite (round binary64 false a c)
+round-minus a c = ap finite (round-opposite binary64 false a c) ∙ finite-neg (round binary64 false a c)
 
 round-sign : (s t : Bool) (a c : ℕ) → finite (round binary64 s a c) ≡ finite (round binary64 t a c)
-unfolding round
-round-sign s t a c =
-    let n = a * 2 ^ low binary64 in
-    let k = size (n / c) - prec binary64 in
-    let u = c * 2 ^ k in
-    units-sign binary64 s t (nearest (n / u) (compare (n % u * 2) u)) k
+round-sign true true a c = refl
+round-sign true false a c = round-minus a c
+round-sign false true a c = sym (round-minus a c)
+round-sign false false a c = refl
 
 -- infinity times 0, or an infinity
 never-finite : (b s : Bool) → finite (cond b nan (inf s)) ≡ false
@@ -44,25 +32,17 @@ product-neg (fin s m e) nan = refl
 product-neg (fin s m e) (inf t) = rw (never-finite, never-finite) refl
 product-neg (fin s m e) (fin t n d) = round-sign (unlike (not s) t) (unlike s t) (m * up e * (n * up d)) (down e * down d)
 
--- a sum that is finite has finite parts
+-- a sum or a difference that is finite has finite parts
+tells : (u v : Bool) → (v ≡ true → u ≡ true) → (u && v) ≡ v
+tells true v h = refl
+tells false true h = absurd (false≢true (h refl))
+tells false false h = refl
+
 pub sum-tells : (b x : Float) → (finite x && finite (b ⊕ x)) ≡ finite (b ⊕ x)
-unfolding add
-sum-tells nan nan = refl
-sum-tells nan (inf t) = refl
-sum-tells nan (fin t n d) = refl
-sum-tells (inf s) nan = refl
-sum-tells (inf true) (inf true) = refl
-sum-tells (inf true) (inf false) = refl
-sum-tells (inf false) (inf true) = refl
-sum-tells (inf false) (inf false) = refl
-sum-tells (inf s) (fin t n d) = refl
-sum-tells (fin s m e) nan = refl
-sum-tells (fin s m e) (inf t) = refl
-sum-tells (fin s m e) (fin t n d) = refl
+sum-tells b x = tells (finite x) (finite (b ⊕ x)) (λ e. (add-finite binary64 b x e) .1)
 
 pub difference-tells : (b x : Float) → (finite (b ⊖ x) && finite x) ≡ finite (b ⊖ x)
-unfolding sub neg
-difference-tells b x = swap (finite (b ⊖ x)) (finite x) ∙ ap (λ (z : Bool). z && finite (b ⊖ x)) (sym (finite-neg x)) ∙ sum-tells b (neg x)
+difference-tells b x = swap (finite (b ⊖ x)) (finite x) ∙ tells (finite x) (finite (b ⊖ x)) (λ e. (sub-finite binary64 b x e) .1)
   where
     swap : (u v : Bool) → (u && v) ≡ (v && u)
     swap true true = refl

@@ -1,32 +1,25 @@
 -- The cost of an assembled program: the cost of the a and b columns with all objectives, then each block's own columns.
-use mathlib.Core.Path.{_≡_, refl, sym, ap, subst, _∙_}
+use mathlib.Core.Path.{_≡_, refl, ap, _∙_}
 use mathlib.Core.Bool.{Bool, true, false, cond}
 use mathlib.Core.List.{List, [], _∷_, _++_}
-use Prim.Native.Nat.{ℕ, _+_, _*_, _<_}
+use Prim.Native.Nat.{ℕ, _+_, _*_}
 use native.Mathlib.Omega.{arith}
 use lib.Ieee.{Float, nan}
-use lib.ListN.{length, replicate, length-replicate, getD-replicate}
+use lib.ListN.{replicate, length-replicate, getD-replicate}
 use Rattle.model.specs.Numbers.{at, +0}
-use Rattle.model.specs.Lists.{list, joined, part}
-use Rattle.model.specs.Problem.{Problem, Path, Roots, objectives, hasRoot, n}
-use Rattle.model.specs.Program.{Cell, Block, nothing}
+use Rattle.model.specs.Lists.{list, joined}
+use Rattle.model.specs.Problem.{Problem, objectives, hasRoot, n}
+use Rattle.model.specs.Program.{Cell, nothing}
 use Rattle.model.specs.Standard.{standard, root, rootStage}
-use Rattle.model.specs.Objectives.{timeBlock, thermalBlock, torqueBlock, linearBlock, objectiveBlock}
+use Rattle.model.specs.Objectives.{timeBlock, thermalBlock, torqueBlock, objectiveBlock}
 use Rattle.model.specs.Assembled.{width, blocks, objectiveBlocks, cost}
 use Rattle.model.specs.declared.Ends.{Ends}
 use Rattle.model.specs.declared.Objective.{Objective}
 use Rattle.model.specs.declared.Objective.the-variants.{Time, ThermalEnergy, TotalVariationTorque, Linear}
-use Rattle.model.proofs.All.{All, all-append, all-list, all-joined}
+use Rattle.model.proofs.Costs.{allCharges, cost-parts}
 use Rattle.model.proofs.Sizes.{Sizes}
 use Rattle.linear.specs.Charges.{chargedAt, chargesOf, abCost}
-use Rattle.linear.proofs.Columns.{Early, cost-columns, list-cong}
-
--- Linear charges a and b columns
-pub linear-early : (q : Path) → Sizes q → (r : Roots) (w : Float) (alpha beta : List Float) → Early (2 * (n q + 1)) (linearBlock q r w alpha beta .charges)
-unfolding linearBlock
-linear-early q z r w alpha beta =
-    simp (all-append (λ (k : Cell). k .column < 2 * (n q + 1)), all-list (λ (k : Cell). k .column < 2 * (n q + 1)))
-    (((λ i a b. omega (arith, z .parts, z .stops), λ i a b. omega (arith, z .parts, z .stops)), λ i a b. omega (arith, z .parts)), λ i a b. omega (arith, z .parts))
+use Rattle.linear.proofs.Columns.{list-cong, charged-columns}
 
 module _ (p : Problem) where
   -- the stationary counts, as the code has them
@@ -67,32 +60,16 @@ module _ (p : Problem) where
       ap (λ (l : List Cell). l ++ joined (λ b. b .charges) (objectiveBlocks p (2 * (n (p .path) + 1) + width (root p)) (objectives p))) root-charges
       ∙ objectives-charges (2 * (n (p .path) + 1) + width (root p)) (objectives p)
 
-  objective-early : Sizes (p .path) → (o : Objective) → Early (2 * (n (p .path) + 1)) (chargesIn o)
-  objective-early z (Time w) = tt
-  objective-early z (ThermalEnergy w a al) = tt
-  objective-early z (TotalVariationTorque w a al) = tt
-  objective-early z (Linear w a al b bl) = linear-early (p .path) z (p .roots) w (part (p .pool) a al) (part (p .pool) b bl)
-
-  objectives-early : Sizes (p .path) → (os : List Objective) → Early (2 * (n (p .path) + 1)) (joined chargesIn os)
-  objectives-early z [] = tt
-  objectives-early z (o ∷ os) =
-      all-append (λ (k : Cell). k .column < 2 * (n (p .path) + 1)) (chargesIn o) (joined chargesIn os) .1 (objective-early z o, objectives-early z os)
-
-  blocks-early : Sizes (p .path) → All (λ b. Early (2 * (n (p .path) + 1)) (b .charges)) (blocks p)
-  blocks-early z =
-      all-joined (λ (k : Cell). k .column < 2 * (n (p .path) + 1)) (λ (b : Block). b .charges) (blocks p) .0
-      (subst (λ (l : List Cell). Early (2 * (n (p .path) + 1)) l) (sym blocks-charges) (objectives-early z (objectives p)))
-
   -- So the cost is written whole by writing the a and b columns first, and then each block's own.
   pub cost-as-columns : Sizes (p .path)
       → cost p ≡ list (abCost (p .path .grid) endsOf (p .roots .start) (p .roots .end) (p .pool) (objectives p)) 0 (2 * (n (p .path) + 1)) ++ joined (λ b. b .cost) (blocks p)
-  unfolding cost
   cost-as-columns z =
       let w : ℕ = 2 * (n (p .path) + 1) in
       let q : List Float = replicate w +0 in
-      let e : length q ≡ w = length-replicate w +0 in
-      cost-columns q (blocks p) (subst (λ (k : ℕ). All (λ b. Early k (b .charges)) (blocks p)) (sym e) (blocks-early z))
-      ∙ ap (λ (k : ℕ). list (λ c. chargedAt (at q c) c (joined (λ b. b .charges) (blocks p))) 0 k ++ joined (λ b. b .cost) (blocks p)) e
+      let cs : List Cell = allCharges (blocks p) in
+      cost-parts p z
       ∙ ap (λ (l : List Float). l ++ joined (λ b. b .cost) (blocks p))
-      (list-cong (λ c. chargedAt (at q c) c (joined (λ b. b .charges) (blocks p))) (λ c. chargedAt +0 c (joined chargesIn (objectives p))) 0 w
-      (λ c a l. ap (λ (x : Float). chargedAt x c (joined (λ b. b .charges) (blocks p))) (getD-replicate w c +0 nan (omega arith)) ∙ ap (chargedAt +0 c) blocks-charges))
+      (charged-columns q cs
+      ∙ ap (list (λ c. chargedAt (at q c) c cs) 0) (length-replicate w +0)
+      ∙ list-cong (λ c. chargedAt (at q c) c cs) (λ c. chargedAt +0 c (joined chargesIn (objectives p))) 0 w
+      (λ c a l. ap (λ (x : Float). chargedAt x c cs) (getD-replicate w c +0 nan (omega arith)) ∙ ap (chargedAt +0 c) blocks-charges))

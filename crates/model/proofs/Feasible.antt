@@ -22,7 +22,8 @@ use Rattle.model.specs.Conic.{units, sumTo, coefficient, times, slack, I
 use Rattle.model.proofs.All.{All, all-append, all-list, all-imp}
 use Rattle.model.proofs.Sums.{length-list, sum-joined}
 use Rattle.model.proofs.Shape.{heights, Inside, entries-inside}
-use Rattle.model.proofs.Integers.{as-diff, add-mul, add-swap, add-sub}
+use Rattle.model.proofs.Integers.{as-diff, add-mul, add-sub}
+use Rattle.model.proofs.SumTo.{sumTo-plus, sumTo-none, sumTo-one}
 use Rattle.model.proofs.Sizes.{Sizes}
 use Rattle.model.proofs.Whole.{bands-sound}
 
@@ -86,7 +87,7 @@ entries-rows (b ∷ bs) r =
       all-imp (λ e. r + b .height ≤ e .row) (λ e. r ≤ e .row) (entriesFrom (r + b .height) bs) (λ e h. omega arith) (entries-rows bs (r + b .height)),
     )
 
-getD-list : {A : Type 0} (f : ℕ → A) (k c i : ℕ) (d : A) → i < c → getD (list f k c) i d ≡ f (k + i)
+pub getD-list : {A : Type 0} (f : ℕ → A) (k c i : ℕ) (d : A) → i < c → getD (list f k c) i d ≡ f (k + i)
 getD-list f k zero i d h = absurd (not-suc-le-zero h)
 getD-list f k (suc c) zero d h = ap f (sym (add-zero k))
 getD-list f k (suc c) (suc i) d h = getD-list f (suc k) c i d (omega arith) ∙ ap f (omega arith)
@@ -156,31 +157,16 @@ module _ (D : ℕ) (z : ℕ → ℤ) where
       (λ h. (subst (InCone (c .kind)) here (h .0), later .0 (h .1)), λ h. (subst (InCone (c .kind)) (sym here) (h .0), later .1 (h .1)))
 
   -- "a point is feasible for what was assembled": each cone holds the slacks of its own rows
-  pub feasible-cones : (p : Problem) → Feasible p D z ↔ All (Holds D z) (cones p)
+  pub feasible-cones : (p : Problem) → Feasible p D z ↔ ((0 < D) × All (Holds D z) (cones p))
   unfolding Feasible coneKinds coneDimensions entries rightSide bands slack
   feasible-cones p =
+      let product =
       product-holds (slack D z (entries p) (rightSide p)) (cones p) 0
       (λ i h. ap (λ (k : ℕ). slack D z (entries p) (rightSide p) k) (omega arith) ∙ ap (λ (k : ℕ). units (at (rightSide p) i) *ℤ pos D -ℤ times z (entries p) k) (omega arith)
-      ∙ slack-at (bands p) 0 i (omega (arith, sum-joined (λ b. b .height) (λ c. c .bands) (cones p))))
+      ∙ slack-at (bands p) 0 i (omega (arith, sum-joined (λ b. b .height) (λ c. c .bands) (cones p)))) in
+      ((λ h. (h .0, product .0 (h .1))), λ h. (h .0, product .1 (h .1)))
 
 -- ---- the slack by the matrix's coefficients: A's row r times z
-
-sumTo-plus : (f g : ℕ → ℤ) (C : ℕ) → sumTo (λ c. f c +ℤ g c) C ≡ sumTo f C +ℤ sumTo g C
-sumTo-plus f g zero = refl
-sumTo-plus f g (suc C) = ap (λ (x : ℤ). x +ℤ (f C +ℤ g C)) (sumTo-plus f g C) ∙ add-swap (as-diff (sumTo f C)) (as-diff (sumTo g C)) (as-diff (f C)) (as-diff (g C))
-
-sumTo-none : (f : ℕ → ℤ) (C : ℕ) → ((c : ℕ) → c < C → f c ≡ pos 0) → sumTo f C ≡ pos 0
-sumTo-none f zero h = refl
-sumTo-none f (suc C) h = simp (sumTo-none f C (λ c a. h c (omega arith)), h C (omega arith))
-
--- only column k counts
-sumTo-one : (f : ℕ → ℤ) (k C : ℕ) → k < C → ((c : ℕ) → k ≢ c → f c ≡ pos 0) → sumTo f C ≡ f k
-sumTo-one f k zero a h = absurd (not-suc-le-zero a)
-sumTo-one f k (suc C) a h = go (λ b. sumTo-one f k C b h) (ℕ-discrete k C)
-  where
-    go : (k < C → sumTo f C ≡ f k) → Dec (k ≡ C) → sumTo f C +ℤ f C ≡ f k
-    go t (yes e) = ap₂ _+ℤ_ (sumTo-none f C (λ c b. h c (omega arith))) (ap f (sym e)) ∙ +ℤ-idl (f k)
-    go t (no e) = ap₂ _+ℤ_ (t (omega arith)) (h C e) ∙ +ℤ-idr (f k)
 
 module _ (z : ℕ → ℤ) where
   -- one entry

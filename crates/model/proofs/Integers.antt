@@ -100,6 +100,8 @@ le-diff a b c d = go a b c d (view a b) (view c d)
 pub eq-diff : (a b c d : ℕ) → (diff a b ≡ diff c d) ↔ (a + d ≡ c + b)
 eq-diff a b c d = (λ e. omega (arith, ((le-diff a b c d) .0 (subst (λ (x : ℤ). diff a b ≤ℤ x) e (≤ℤ-refl (diff a b)))), ((le-diff c d a b) .0 (subst (λ (x : ℤ). x ≤ℤ diff a b) e (≤ℤ-refl (diff a b))))), same-diff a b c d)
 
+pub ruleset differences = (pos-diff, neg-pos, neg-diff, add-diff, mul-diff, eq-diff, le-diff)
+
 -- Every whole number is a difference: a law matches on `is a b` for each of its numbers, and its user writes `as-diff x`
 pub data AsDiff : ℤ → Type 0 where
   is : (a b : ℕ) → AsDiff (diff a b)
@@ -120,3 +122,24 @@ add-swap (is a b) (is c d) (is e f) (is g h) = simp add-diff (same-diff _ _ _ _ 
 
 pub add-sub : {x y : ℤ} → AsDiff x → AsDiff y → x +ℤ (y -ℤ x) ≡ y
 add-sub (is a b) (is c d) = simp (neg-diff, add-diff) (same-diff _ _ _ _ (omega arith))
+
+pub natural : (k : ℕ) → pos 0 ≤ℤ pos k
+natural k = simp (pos-diff, le-diff) (omega arith)
+
+-- a positive factor does not change the sign
+pub sign-law : (u : ℕ) → 0 < u → {x : ℤ} → AsDiff x → pos 0 ≤ℤ (pos u *ℤ x) ↔ pos 0 ≤ℤ x
+sign-law u h (is a b) =
+    simp differences ((λ e. omega (arith, le-of-mul-le-mul-left {m = b} {n = a} {k = u} (omega arith) h)), λ e. omega (arith, mul-le-mul-left {m = b} {n = a} u (omega arith)))
+
+pub add-le : {a b c d : ℤ} → AsDiff a → AsDiff b → AsDiff c → AsDiff d → a ≤ℤ b → c ≤ℤ d → (a +ℤ c) ≤ℤ (b +ℤ d)
+add-le (is _ _) (is _ _) (is _ _) (is _ _) = simp differences (λ e f. omega arith)
+
+-- a factor in a sum; before and behind another factor; and in a product
+pub times-sum : {k x y : ℤ} → AsDiff k → AsDiff x → AsDiff y → k *ℤ x +ℤ k *ℤ y ≡ k *ℤ (x +ℤ y)
+times-sum (is _ _) (is _ _) (is _ _) = simp differences (omega arith)
+
+pub times-past : {k v x : ℤ} → AsDiff k → AsDiff v → AsDiff x → v *ℤ (k *ℤ x) ≡ k *ℤ (v *ℤ x)
+times-past (is _ _) (is _ _) (is _ _) = simp differences (omega arith)
+
+pub times-assoc : {x y w : ℤ} → AsDiff x → AsDiff y → AsDiff w → x *ℤ (y *ℤ w) ≡ x *ℤ y *ℤ w
+times-assoc (is _ _) (is _ _) (is _ _) = simp differences (omega arith)

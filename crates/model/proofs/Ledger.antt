@@ -5,11 +5,9 @@ use mathlib.Core.List.{List, [], _∷_, _++_, map}
 use lib.ListN.{replicate, take, drop}
 use lib.Ieee.{Float, neg}
 use lib.Ieee
-use Rattle.model.specs.Numbers.{+0, +1, +2, +3, +4, +5, +6, half, +∞}
-use Rattle.model.specs.Lists.{joined}
-use Rattle.model.specs.Problem.{Problem, Path, Torque}
+use Rattle.model.specs.Numbers.{+0, +1, +2, +3, +∞}
+use Rattle.model.specs.Problem.{Problem}
 use Rattle.model.specs.Problem as Sizes
-use Rattle.model.specs.Program.{Block, rightSides, dimension}
 use Rattle.model.specs.Program
 use Rattle.model.specs.Verdicts
 use Rattle.model.specs.Refusals.{refusal}
@@ -83,30 +81,4 @@ pub twelve-costs : cost oneTime ≡ replicate 10 +0 ++ (+1 ∷ +1 ∷ [])
 unfolding everything
 twelve-costs = refl
 
--- "the stationary ends take the weight itself, times table 10 at station 0 or n, and right side −(g + g at the end)":
--- n = 3, N0 = N1 = 1, table 10 is 5, 1, 1/2, 6 and g is 1, 2, 4, 1
-abbrev path : Path
-path = record { grid = four; N0 = 1; N1 = 1 }
-
-abbrev torque : Torque
-torque = record { d = 1; a = replicate 4 +0; b = replicate 4 +0; g = +1 ∷ +2 ∷ +4 ∷ +1 ∷ [] }
-
-abbrev thermal : Block
-thermal = thermalBlock path torque (+5 ∷ +1 ∷ half ∷ +6 ∷ []) +1 (+1 ∷ []) 10
-
-pub thermal-cost : thermal .cost ≡ +5 ∷ +6 ∷ +4 ∷ +2 ∷ []
-unfolding everything
-thermal-cost = refl
-
-pub thermal-right : rightSides (joined (λ c. c .bands) (thermal .cones)) ≡ +0 ∷ +0 ∷ neg +3 ∷ +0 ∷ +0 ∷ neg +5 ∷ +0 ∷ +0 ∷ neg +2 ∷ +0 ∷ +0 ∷ neg +4 ∷ []
-unfolding everything
-thermal-right = refl
-
--- "Dropping the last row of a Time cone because it has no entry; it carries the 2."
-pub time-dimensions : map dimension (timeBlock path +1 10 .cones) ≡ 2 ∷ 3 ∷ 3 ∷ []
-unfolding everything
-time-dimensions = refl
-
-pub time-right : rightSides (joined (λ c. c .bands) (timeBlock path +1 10 .cones)) ≡ +0 ∷ +0 ∷ +0 ∷ +0 ∷ +2 ∷ +0 ∷ +0 ∷ +2 ∷ []
-unfolding everything
-time-right = refl
+-- The other two traps are ruled out by what the cones and the cost mean: `ThermalMeaning`, `TimeMeaning` and `objectiveCost` (specs/Meaning.antt), by Demand2.antt

@@ -4,13 +4,18 @@ use native.Mathlib.Omega.{arith}
 use native.Mathlib.Decide.{ℕ-discrete}
 use mathlib.Core.Path.{_≡_, refl}
 use mathlib.Core.Logic.{_↔_, _≢_}
-use mathlib.Core.Bool.{Bool, true, false, not, _||_}
+use mathlib.Core.Bool.{Bool, true, false, not, _&&_, _||_, false≢true}
 use lib.Dec.{ltb, leb, eqb}
 use borrow.Author.Tests.{ltb-false, leb-false, eqb-true, eqb-false, not-false, le-ltb, lt-leb, eq-eqb, ne-eqb}
 use Rattle.model.specs.Verdicts.{_then_, refuse, lowest}
 use Rattle.model.specs.Refusals.{table, tableIf}
 use Rattle.model.specs.declared.Verdict.{Verdict}
 use Rattle.model.specs.declared.Verdict.the-variants.{Accepted, Refused}
+
+-- two tests
+pub both : (a b : Bool) → (a && b) ≡ true → (a ≡ true) × (b ≡ true)
+both true b e = (refl, e)
+both false b e = absurd (false≢true e)
 
 -- checks pass one after another if each passes
 pub then-passes : (a b : Verdict) → ((a then b) ≡ Accepted) ↔ ((a ≡ Accepted) × (b ≡ Accepted))

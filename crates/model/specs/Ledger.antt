@@ -71,6 +71,7 @@ four = +0 ∷ +1 ∷ +2 ∷ +3 ∷ []
 abbrev free : ℕ → List Float
 free k = replicate k +∞
 
+-- A cone program to size and to look at, not to solve: at rest at both ends of two equal steps it has no feasible point (`caseA-none`, proofs/Worked.antt)
 abbrev pub caseA : Problem
 caseA = given +0 three 0 0 1 (Time +1 ∷ []) (free 3) 0
 

@@ -11,4 +11,5 @@ pub mod Assembled
 pub mod Counts
 pub mod Answers
 pub mod Conic
+pub mod Meaning
 pub mod Ledger

@@ -1,7 +1,7 @@
 -- Laws that several proofs cite.
 use Prim.Native.Nat.{ℕ, _+_, _*_, _≤_, _<_}
-use mathlib.Core.Path.{_≡_, refl, sym, subst}
-use mathlib.Core.Bool.{Bool, true, false, _&&_}
+use mathlib.Core.Path.{_≡_, sym, subst}
+use mathlib.Core.Bool.{true, false}
 use mathlib.Core.List.{List}
 use lib.Dec.{T}
 use lib.ListN.{length, take, length-take}
@@ -12,10 +12,6 @@ use Rattle.replay_list.specs.File.{fourBytes, shortAt, longAt}
 -- a test that came out false is not true
 pub never : {A : Type 0} → false ≡ true → A
 never e = absurd (subst T (sym e) tt)
-
-pub both : (a b : Bool) → (a && b) ≡ true → (a ≡ true) × (b ≡ true)
-both true b e = (refl, e)
-both false b e = never e
 
 -- what is lent of a list is as long as the part asked for
 pub counted : {A : Type 0} (n : ℕ) (l : List A) → n ≤ length l → n ≡ length (take n l)

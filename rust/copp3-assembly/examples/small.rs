@@ -5,7 +5,8 @@ use copp3_assembly::{Assembly, Boundary, Bounds, Objective, Problem, Refusal, as
 
 const UNLIMITED: f64 = f64::INFINITY;
 
-/// Case A: three stations, everything 0, no upper bound, one Time.
+/// Case A: three stations, everything 0, no upper bound, one Time. It has no
+/// feasible point, so do not try a solver on it.
 fn case_a() -> Problem<'static> {
     Problem {
         boundary: Boundary::default(),

@@ -1,5 +1,5 @@
 -- `replay_list::case::buffers_agree` meets its contract: all seven comparisons came out true, each at its buffer's place.
-use Rattle.replay_list.proofs.Laws.{both}
+use Rattle.model.proofs.Passes.{both}
 use Rattle.replay_list.proofs.case.buffers_agree.Statement.{statement}
 use Rattle.replay_list.proofs.case.buffers_agree.Tie as tie
 

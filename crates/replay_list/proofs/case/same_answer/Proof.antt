@@ -3,7 +3,7 @@ use Prim.Native.Nat.{ℕ}
 use mathlib.Core.Path.{_≡_}
 use borrow.Author.Tests.{eqb-true}
 use Rattle.copp3_c.specs.declared.AnswerRecord.{AnswerRecord}
-use Rattle.replay_list.proofs.Laws.{both}
+use Rattle.model.proofs.Passes.{both}
 use Rattle.replay_list.proofs.case.same_answer.Statement.{statement}
 use Rattle.replay_list.proofs.case.same_answer.Tie as tie
 
