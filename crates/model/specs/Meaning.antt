@@ -1,6 +1,7 @@
 -- What a feasible point of the assembled program satisfies, block by block: the page that a planner reads. The theorem is `demand2`, field `says`
 -- (proofs/Demand2.antt): a point of an accepted problem is feasible (Conic.antt) exactly if it satisfies `Meaning`, at the end of this page.
--- Column c of the point is z c / D. Values are exact: `units x` is the double x in units of 2^−1074. A coefficient that the Rust rounds stands here rounded.
+-- Column c of the point is z c / D; A, X, E and t below are the columns a, xi, eta and t times D, as in request 14. Values are exact: `units x` is the double x in
+-- units of 2^−1074. A coefficient that the Rust rounds stands here rounded.
 use Rattle.model.specs.Base.{ℕ, _+_, _-_, _*_, _^_, _≤_, _<_, _≡_, true, cond, List, [], _∷_, getD, take, ltb, ℤ, pos, _+ℤ_, _-ℤ_, _*ℤ_, _≤ℤ_, Float, neg, Bounds, Objective, Time, ThermalEnergy, TotalVariationTorque, Linear}
 use Rattle.model.specs.Numbers.{at, finite, _⊕_, _⊖_, _⊗_, _⊘_, +1, +4, −1½}
 use Rattle.model.specs.Lists.{list, total, part}
@@ -130,7 +131,7 @@ module _ (p : Problem) (D : ℕ) (z : ℕ → ℤ) where
     abbrev pub torqueSlack : ℕ → (ℕ → Float) → ℕ → ℤ
     torqueSlack k g i = g i · pos D -ℤ dynamicTorque k i
 
-    -- ThermalEnergy, with the own column t and xi number j: t + X ≥ 0, and 4·t·X is at least the sum of the squares of the torque slacks
+    -- ThermalEnergy, with the own column t, xi number j, station k and the right sides g: t + X ≥ 0, and 4·t·X is at least the sum of the squares of the torque slacks
     -- (`thermal-whole`, proofs/Cones.antt: where they are whole numbers T over D, it is at least the sum of the squares of these)
     abbrev pub BoundsSquares : ℕ → ℕ → ℕ → (ℕ → Float) → Type 0
     BoundsSquares t j k g = (pos 0 ≼ z t +ℤ xi j) × (squares (list (torqueSlack k g) 0 d) ≼ pos 4 *ℤ whole (z t) *ℤ whole (xi j))
