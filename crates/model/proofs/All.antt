@@ -16,6 +16,11 @@ module _ {A : Type 0} where
   All P [] = Unit {0}
   All P (x ∷ xs) = P x × All P xs
 
+  -- any property of a list that holds of the empty one
+  pub given-says : (Q : List A → Type 0) → Q [] → (b : Bool) (xs : List A) → Q (given b xs) ↔ (b ≡ true → Q xs)
+  given-says Q n true xs = (λ h _. h, λ h. h refl)
+  given-says Q n false xs = (λ _ e. absurd (false≢true e), λ _. n)
+
   module _ (P : A → Type 0) where
     pub all-append : (xs ys : List A) → All P (xs ++ ys) ↔ (All P xs × All P ys)
     all-append [] ys = (λ h. (tt, h), λ h. h .1)
@@ -24,8 +29,7 @@ module _ {A : Type 0} where
         (λ h. ((h .0, (e .0 (h .1)) .0), (e .0 (h .1)) .1), λ h. (h .0 .0, e .1 (h .0 .1, h .1)))
 
     pub all-given : (b : Bool) (xs : List A) → All P (given b xs) ↔ (b ≡ true → All P xs)
-    all-given true xs = (λ h _. h, λ h. h refl)
-    all-given false xs = (λ _ e. absurd (false≢true e), λ _. tt)
+    all-given = given-says (All P) tt
 
     -- the element at i of a list that starts at k: the first one, or one of the rest
     pick : (f : ℕ → A) (k i : ℕ) → P (f k) → (suc k ≤ i → P (f i)) → k ≤ i → Dec (k ≡ i) → P (f i)

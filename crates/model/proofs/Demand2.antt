@@ -13,7 +13,6 @@ use Rattle.model.specs.Problem.{Problem, objectives, n, L, skip, some, i
 use Rattle.model.specs.Refusals.{refusal}
 use Rattle.model.specs.Program.{nothing}
 use Rattle.model.specs.Standard.{standard, root, rootStage}
-use Rattle.model.specs.Answers.{finiteRefusal}
 use Rattle.model.specs.Assembled.{width, objectiveBlocks, blocks, cones, entries, rightSide, cost}
 use Rattle.model.specs.Conic.{units, sumTo, coefficient, slack, Feasible, costAt}
 use Rattle.model.specs.declared.Objective.{Objective}
@@ -21,9 +20,8 @@ use Rattle.model.specs.declared.Objective.the-variants.{Time}
 use Rattle.model.specs.declared.Verdict.the-variants.{Accepted}
 use Rattle.model.proofs.All.{All, all-joined}
 use Rattle.model.proofs.Sizes.{Sizes}
-use Rattle.model.proofs.Passes.{then-passes}
 use Rattle.model.proofs.Usable.{usable, usable-sizes}
-use Rattle.model.proofs.Demand3.{Acceptable}
+use Rattle.model.proofs.Demand3.{Acceptable, accepted, all-finite}
 use Rattle.model.proofs.Counted.{root-width}
 use Rattle.model.proofs.Feasible.{Holds, feasible-cones, matrix-form}
 use Rattle.model.specs.Meaning.{_≼_, xi, RootStage, TimeMeaning, ObjectivesMeaning, firstOwnColumn, Meaning, stationsCost, objectiveCost, objectivesCost}
@@ -89,10 +87,7 @@ pub record Demand2 (p : Problem) : Type 0 where
 
 module _ (p : Problem) (ok : Acceptable p) where
   passed : refusal p ≡ Accepted
-  passed = ((then-passes (refusal p) (finiteRefusal p)) .0 ok) .0
-
-  all-finite : finiteRefusal p ≡ Accepted
-  all-finite = ((then-passes (refusal p) (finiteRefusal p)) .0 ok) .1
+  passed = accepted p ok
 
   pub demand2 : Demand2 p
   demand2 =
@@ -100,7 +95,7 @@ module _ (p : Problem) (ok : Acceptable p) where
       record {
         form = λ D z. matrix-form z D p l;
         cone-by-cone = λ D z. feasible-cones D z p;
-        says = means p passed (accepted-twice-finite p l all-finite);
+        says = means p passed (accepted-twice-finite p l (all-finite p ok));
         scaled = λ k h. feasible-scaled k h p;
         same-cost = λ k. cost-scaled k p;
         costs = λ z. costs-add p z l;

@@ -52,10 +52,10 @@ pub record Demand3 (p : Problem) : Type 0 where
   pub well-formed : (b : Buffers) → Enough (counts p) b → Formed (counts p) (assembly p b .buffers)
 
 module _ (p : Problem) (ok : Acceptable p) where
-  accepted : refusal p ≡ Accepted
+  pub accepted : refusal p ≡ Accepted
   accepted = ((then-passes (refusal p) (finiteRefusal p)) .0 ok) .0
 
-  all-finite : finiteRefusal p ≡ Accepted
+  pub all-finite : finiteRefusal p ≡ Accepted
   all-finite = ((then-passes (refusal p) (finiteRefusal p)) .0 ok) .1
 
   sized : sizing p ≡ outcome Accepted (counts p)

@@ -1,29 +1,29 @@
 -- A property of every slack of some bands, taken apart over the lists that `++`, `given`, `list` and `over` make. Each law is an equivalence.
 use Prim.Native.Nat.{ℕ, _+_, _≤_, _<_}
 use native.Mathlib.Omega.{arith}
-use mathlib.Core.Path.{_≡_, refl, subst}
+use mathlib.Core.Path.{_≡_, subst}
 use mathlib.Core.Logic.{_↔_, Iff·trans}
-use mathlib.Core.Bool.{Bool, true, false, false≢true}
+use mathlib.Core.Bool.{Bool, true}
 use mathlib.Core.List.{List, [], _∷_, _++_}
 use lib.IntN.{ℤ, pos}
 use lib.Signed.{_≤ℤ_}
 use Rattle.model.specs.Lists.{list, over, given}
 use Rattle.model.specs.Program.{Band}
 use Rattle.model.specs.Conic.{Zero, Nonnegative}
-use Rattle.model.proofs.All.{All, all-append, all-list, all-over, all-joined}
+use Rattle.model.proofs.All.{All, given-says, all-append, all-list, all-over, all-joined}
 use Rattle.model.proofs.Feasible.{rowSlack, slacks, slacks-append}
 
-abbrev IsZero : ℤ → Type 0
+abbrev pub IsZero : ℤ → Type 0
 IsZero x = x ≡ pos 0
 
-abbrev IsNonnegative : ℤ → Type 0
+abbrev pub IsNonnegative : ℤ → Type 0
 IsNonnegative x = pos 0 ≤ℤ x
 
-zero-all : (l : List ℤ) → All IsZero l ↔ Zero l
+pub zero-all : (l : List ℤ) → All IsZero l ↔ Zero l
 zero-all [] = ((λ h. h), λ h. h)
 zero-all (x ∷ l) = let r = zero-all l in ((λ h. (h .0, r .0 (h .1))), λ h. (h .0, r .1 (h .1)))
 
-nonnegative-all : (l : List ℤ) → All IsNonnegative l ↔ Nonnegative l
+pub nonnegative-all : (l : List ℤ) → All IsNonnegative l ↔ Nonnegative l
 nonnegative-all [] = ((λ h. h), λ h. h)
 nonnegative-all (x ∷ l) = let r = nonnegative-all l in ((λ h. (h .0, r .0 (h .1))), λ h. (h .0, r .1 (h .1)))
 
@@ -37,8 +37,7 @@ module _ (D : ℕ) (z : ℕ → ℤ) (P : ℤ → Type 0) where
 
   pub each-given : (t : Bool) (bs : List Band) → Each (given t bs) ↔ (t ≡ true → Each bs)
   unfolding Each
-  each-given true bs = (λ h _. h, λ h. h refl)
-  each-given false bs = (λ _ e. absurd (false≢true e), λ _. tt)
+  each-given = given-says Each tt
 
   -- band by band
   each-bands : (bs : List Band) → Each bs ↔ All (λ b. All P (list (rowSlack D z b) 0 (b .height))) bs

@@ -1,6 +1,6 @@
 -- "Every finite double is a whole multiple of 2^−1074": `units` loses nothing. Every number of the program fits binary64, as a literal or as an operation's result.
 use Prim.Native.Nat.{ℕ, zero, suc, _+_, _-_, _*_, _/_, _%_, _^_, _≤_, _<_}
-use native.Mathlib.Nat.{mul-assoc, mul-div-cancel, lt-irrefl, lt-of-lt-of-le}
+use native.Mathlib.Nat.{zero-mul, zero-div, mul-pos, eq-of-mul-eq-mul-right, mul-assoc, mul-div-cancel, lt-irrefl, lt-of-lt-of-le}
 use native.Mathlib.Decide.{decLt}
 use native.Mathlib.Omega.{arith}
 use mathlib.Core.Path.{_≡_, refl, sym, ap, _∙_}
@@ -9,8 +9,9 @@ use lib.Dec.{T, leb, ltb, eqb, leb→le, ltb→lt, eqb→eq}
 use lib.Pow.{pow-add, pow-pos, pow-lt}
 use lib.IntN.{ℤ, pos, negsuc, negℤ, natAbs}
 use lib.Ieee
-use lib.Ieee.{inf, fin, Format, binary64, prec, emax, low, up, down, odd, fits}
-use lib.Ieee.Fits.{and-l, and-r, down-pos}
+use lib.Ieee.{inf, fin, Format, binary64, prec, emax, low, up, down, odd, fits, round}
+use lib.Ieee.Exact.{HasValue, round-exact}
+use lib.Ieee.Fits.{up-pos, and-l, and-r, down-pos}
 use borrow.Author.Tests.{ltb-true}
 use Rattle.model.specs.Numbers.{finite}
 use Rattle.model.specs.Conic.{units}
@@ -81,3 +82,19 @@ units-below f s t k e = go (ltb (t * 2 ^ k) (2 ^ (low f + suc (emax f)))) refl e
     go : (b : Bool) → ltb (t * 2 ^ k) (2 ^ (low f + suc (emax f))) ≡ b → finite (cond b (odd (suc (prec f)) s t k (low f)) (inf s)) ≡ true → t * 2 ^ k < 2 ^ (low f + suc (emax f))
     go true q h = ltb-true (t * 2 ^ k) (2 ^ (low f + suc (emax f))) q
     go false q h = absurd (false≢true h)
+
+-- ---- nothing
+
+pub round-none : (f : Format) (s : Bool) (c : ℕ) → 0 < c → HasValue (round f s 0 c) s 0 c
+round-none f s c h = round-exact f s 0 c 0 0 h (pow-pos (prec f)) (omega (arith, pow-pos (low f + suc (emax f)))) (omega arith)
+
+pub none-of : (t s : Bool) (m : ℕ) (e : ℤ) (c : ℕ) → 0 < c → HasValue (fin t m e) s 0 c → m ≡ 0
+none-of t s m e c h v = eq-of-mul-eq-mul-right (up e * c) (mul-pos (up-pos e) h) m 0 (omega (arith, v .1))
+
+pub none-units : (t : Bool) (m : ℕ) (e : ℤ) → m ≡ 0 → units (fin t m e) ≡ pos 0
+unfolding units
+none-units t m e h = ap (λ (k : ℕ). cond t (negℤ (pos k)) (pos k)) (ap (λ (k : ℕ). k * up e * 2 ^ low binary64 / down e) h ∙ ap (λ (k : ℕ). k * 2 ^ low binary64 / down e) (zero-mul (up e)) ∙ zero-div (down e)) ∙ go t
+  where
+    go : (t : Bool) → cond t (negℤ (pos 0)) (pos 0) ≡ pos 0
+    go true = refl
+    go false = refl

@@ -1,20 +1,20 @@
 -- x ⊖ y and y ⊖ x are opposite numbers, exactly: rounding is alike on both sides of zero.
-use Prim.Native.Nat.{ℕ, zero, suc, _+_, _-_, _*_, _/_, _^_, _<_}
-use native.Mathlib.Nat.{mul-comm, add-comm, zero-mul, zero-div, mul-pos, eq-of-mul-eq-mul-right}
+use Prim.Native.Nat.{ℕ, zero, suc, _+_, _-_, _*_, _^_, _<_}
+use native.Mathlib.Nat.{mul-comm, add-comm, mul-pos}
 use native.Mathlib.Decide.{decLt}
 use native.Mathlib.Omega.{arith}
-use mathlib.Core.Path.{_≡_, refl, sym, ap, ap₂, _∙_}
+use mathlib.Core.Path.{_≡_, refl, sym, ap, _∙_}
 use mathlib.Core.Bool.{Bool, true, false, not, cond, _&&_, and-true, and-false}
 use lib.Dec.{ltb}
-use lib.Pow.{pow-pos}
-use lib.IntN.{ℤ, pos, negℤ, negℤ-negℤ}
+use lib.IntN.{pos, negℤ, negℤ-negℤ}
 use lib.Ieee
 use lib.Ieee.{Float, nan, inf, fin, Format, binary64, prec, emax, low, up, down, odd, round, add, sub, sum, neg}
 use lib.Ieee.Fits.{round-is, down-pos}
-use lib.Ieee.Exact.{HasValue, round-exact}
+use lib.Ieee.Exact.{HasValue}
 use borrow.Author.Tests.{lt-ltb, le-ltb}
 use Rattle.model.specs.Numbers.{_⊖_}
 use Rattle.model.specs.Conic.{units}
+use Rattle.model.proofs.Exact.{round-none, none-of, none-units}
 use Rattle.model.proofs.Units.{units-neg}
 
 sign-units : (f : Format) (s : Bool) (q k : ℕ) → Ieee.units f (not s) q k ≡ neg (Ieee.units f s q k)
@@ -33,21 +33,14 @@ round-opposite f s num den =
 units-opposite : (s : Bool) (num den : ℕ) → units (round binary64 (not s) num den) ≡ negℤ (units (round binary64 s num den))
 units-opposite s num den = ap units (round-opposite binary64 s num den) ∙ units-neg (round binary64 s num den)
 
--- nothing rounds to nothing
-zero-value : (x : Float) (c : ℕ) → 0 < c → HasValue x false 0 c → units x ≡ pos 0
+zero-value : (x : Float) (s : Bool) (c : ℕ) → 0 < c → HasValue x s 0 c → units x ≡ pos 0
 unfolding units
-zero-value nan c h v = refl
-zero-value (inf s) c h v = refl
-zero-value (fin t m e) c h v =
-    let none : m * up e ≡ 0 = eq-of-mul-eq-mul-right c h (m * up e) 0 (v .1 ∙ zero-mul (down e) ∙ sym (zero-mul c)) in
-    let worth : Bool → ℕ → ℤ = λ b k. let n = k * 2 ^ low binary64 / down e in cond b (negℤ (pos n)) (pos n) in
-    ap₂ worth (v .0) none ∙ ap pos (zero-div (down e))
-
-exact-zero : (f : Format) (c : ℕ) → 0 < c → HasValue (round f false 0 c) false 0 c
-exact-zero f c h = round-exact f false 0 c 0 0 h (pow-pos (prec f)) (omega (arith, pow-pos (low f + suc (emax f)))) (omega arith)
+zero-value nan s c h v = refl
+zero-value (inf t) s c h v = refl
+zero-value (fin t m e) s c h v = none-units t m e (none-of t s m e c h v)
 
 zero-round : (c : ℕ) → 0 < c → units (round binary64 false 0 c) ≡ pos 0
-zero-round c h = zero-value (round binary64 false 0 c) c h (exact-zero binary64 c h)
+zero-round c h = zero-value (round binary64 false 0 c) false c h (round-none binary64 false c h)
 
 -- sums of like signs, and of unlike signs: the larger part decides, and equal parts give zero
 like : (s : Bool) (a b c : ℕ) → units (round binary64 (not s) (b + a) c) ≡ negℤ (units (round binary64 s (a + b) c))

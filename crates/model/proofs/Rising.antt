@@ -1,8 +1,8 @@
 -- Over an accepted grid of doubles no Time weight is below zero: later stations are larger, and rounding keeps it so.
 use Prim.Native.Nat.{ℕ, zero, suc, _+_, _-_, _≤_, _<_}
 use native.Mathlib.Omega.{arith}
-use mathlib.Core.Path.{_≡_, refl, subst}
-use mathlib.Core.Bool.{Bool, true, false, not, cond, _&&_}
+use mathlib.Core.Path.{_≡_, subst}
+use mathlib.Core.Bool.{true, false, not}
 use mathlib.Core.List.{List, [], _∷_, map}
 use lib.Dec.{ltb, eqb}
 use lib.ListN.{length}
@@ -12,7 +12,7 @@ use lib.Ieee.{Float, binary64, lt, ofBits}
 use lib.Ieee.Bits.{ofBits-fits}
 use lib.Ieee.Fits.{nan-fits}
 use borrow.Author.Tests.{ltb-true, eqb-true, not-false}
-use Rattle.model.specs.Numbers.{at, _⊕_, _⊖_, _⊗_, +0, +5, +6, half, unfit, finite}
+use Rattle.model.specs.Numbers.{at, _⊗_, half, unfit, finite}
 use Rattle.model.specs.Problem.{Problem, Path, objectives, n, stop, s}
 use Rattle.model.specs.Verdicts.{_then_, lowest, itself}
 use Rattle.model.specs.Refusals.{refusal, boundaryRefusal, gridRefusal, setupRefusal, tablesRefusal, boundsRefusal, objectivesRefusal}
@@ -25,7 +25,7 @@ use Rattle.model.proofs.All.{All}
 use Rattle.model.proofs.Sizes.{Sizes}
 use Rattle.model.proofs.Passes.{both, then-passes, refuse-passes, lowest-passes}
 use Rattle.model.proofs.Values.{value-lt}
-use Rattle.model.proofs.Signs.{plus, plus-units, mul-plus, fit-plus, half-plus}
+use Rattle.model.proofs.Signs.{plus, plus-units, plus-cond, mul-plus, fit-plus, half-plus, zero-is-plus}
 use Rattle.model.proofs.EndWeights.{Double, _≺_, lt-le, start-plus, end-plus, moving-plus}
 
 -- the numbers of a list are doubles, as they are in every list that memory holds
@@ -77,32 +77,28 @@ module _ (p : Problem) (ok : refusal p ≡ Accepted) where
     before : (i j : ℕ) → i < j → j ≤ n q → s q i ≺ s q j
     before i j a b = let e : i + suc (j - i - 1) ≡ j = omega arith in subst (λ (k : ℕ). s q i ≺ s q k) e (steps i (j - i - 1) (omega arith))
 
-    -- the weight of a station
+    halved : (x : Float) → plus x ≡ true → plus (half ⊗ x) ≡ true
+    halved x h = mul-plus binary64 half x half-plus h
+
+    -- the weight of a station: of the start, of the end, of a moving one, and 0
     weight-plus : (k : ℕ) → plus (timeWeight q k) ≡ true
     unfolding timeWeight
-    weight-plus k = go (ltb 0 (q .N0) && eqb k (q .N0)) (ltb 0 (q .N1) && eqb k (stop q)) (ltb (q .N0) k && ltb k (stop q)) refl refl refl
-      where
-        halved : (x : Float) → plus x ≡ true → plus (half ⊗ x) ≡ true
-        halved x h = mul-plus binary64 half x half-plus h
-
-        go : (a b c : Bool) → (ltb 0 (q .N0) && eqb k (q .N0)) ≡ a → (ltb 0 (q .N1) && eqb k (stop q)) ≡ b → (ltb (q .N0) k && ltb k (stop q)) ≡ c
-            → plus (cond a (half ⊗ (+5 ⊗ s q k ⊕ s q (k + 1) ⊖ +6 ⊗ s q 0)) (cond b (half ⊗ (+6 ⊗ s q (n q) ⊖ +5 ⊗ s q k ⊖ s q (k - 1))) (cond c (half ⊗ (s q (k + 1) ⊖ s q (k - 1))) +0))) ≡ true
-        go true b c e f g =
-            let t = both (ltb 0 (q .N0)) (eqb k (q .N0)) e in
-            let u = ltb-true 0 (q .N0) (t .0) in
-            let v = eqb-true k (q .N0) (t .1) in
-            halved _ (start-plus (s q 0) (s q k) (s q (k + 1)) (double 0) (double k) (double (k + 1)) (before 0 k (omega arith) (omega arith)) (before k (k + 1) (omega arith) (omega arith)))
-        go false true c e f g =
-            let t = both (ltb 0 (q .N1)) (eqb k (stop q)) f in
-            let u = ltb-true 0 (q .N1) (t .0) in
-            let v = eqb-true k (stop q) (t .1) in
-            halved _ (end-plus (s q (k - 1)) (s q k) (s q (n q)) (double (k - 1)) (double k) (double (n q)) (before (k - 1) k (omega arith) (omega arith)) (before k (n q) (omega arith) (omega arith)))
-        go false false true e f g =
-            let t = both (ltb (q .N0) k) (ltb k (stop q)) g in
-            let u = ltb-true (q .N0) k (t .0) in
-            let v = ltb-true k (stop q) (t .1) in
-            halved _ (moving-plus (s q (k - 1)) (s q (k + 1)) (double (k - 1)) (double (k + 1)) (before (k - 1) (k + 1) (omega arith) (omega arith)))
-        go false false false e f g = unfold ofBits in refl
+    weight-plus k =
+        plus-cond _ _ _ (λ e.
+        let t = both (ltb 0 (q .N0)) (eqb k (q .N0)) e in
+        let u = ltb-true 0 (q .N0) (t .0) in
+        let v = eqb-true k (q .N0) (t .1) in
+        halved _ (start-plus (s q 0) (s q k) (s q (k + 1)) (double 0) (double k) (double (k + 1)) (before 0 k (omega arith) (omega arith)) (before k (k + 1) (omega arith) (omega arith)))) (λ _.
+        plus-cond _ _ _ (λ e.
+        let t = both (ltb 0 (q .N1)) (eqb k (stop q)) e in
+        let u = ltb-true 0 (q .N1) (t .0) in
+        let v = eqb-true k (stop q) (t .1) in
+        halved _ (end-plus (s q (k - 1)) (s q k) (s q (n q)) (double (k - 1)) (double k) (double (n q)) (before (k - 1) k (omega arith) (omega arith)) (before k (n q) (omega arith) (omega arith)))) (λ _.
+        plus-cond _ _ _ (λ e.
+        let t = both (ltb (q .N0) k) (ltb k (stop q)) e in
+        let u = ltb-true (q .N0) k (t .0) in
+        let v = ltb-true k (stop q) (t .1) in
+        halved _ (moving-plus (s q (k - 1)) (s q (k + 1)) (double (k - 1)) (double (k + 1)) (before (k - 1) (k + 1) (omega arith) (omega arith)))) (λ _. zero-is-plus)))
 
     -- no Time weight is below zero, at any station
     pub weight-least : (w : Float) → unfit w ≡ false → (k : ℕ) → pos 0 ≼ units (w ⊗ timeWeight q k)

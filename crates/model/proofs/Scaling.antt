@@ -16,10 +16,12 @@ use Rattle.model.specs.Problem.{Problem, colA, colB}
 use Rattle.model.specs.Program.{Entry}
 use Rattle.model.specs.Objectives.{torqueA, torqueB}
 use Rattle.model.specs.Assembled.{entries, rightSide, cost, coneKinds, coneDimensions}
-use Rattle.model.specs.Conic.{units, times, slack, Zero, Nonnegative, InCone, InProduct, Feasible, costAt}
+use Rattle.model.specs.Conic.{units, times, slack, InCone, InProduct, Feasible, costAt}
 use Rattle.model.proofs.Integers.{AsDiff, is, as-diff, differences, sign-law, times-sum, times-past}
 use Rattle.model.proofs.SumTo.{sumTo-ext, sumTo-times}
 use Rattle.model.specs.Meaning.{one, whole, torqueSlack}
+use Rattle.model.proofs.All.{All}
+use Rattle.model.proofs.Each.{IsZero, IsNonnegative, zero-all, nonnegative-all}
 use Rattle.model.proofs.Cones.{scaled, second-order-scaled, list-scaled}
 
 -- the point with all its numbers k times as large
@@ -29,7 +31,7 @@ scale k z c = pos k *ℤ z c
 slack-law : (k D : ℕ) {v x : ℤ} → AsDiff v → AsDiff x → v *ℤ pos (k * D) -ℤ pos k *ℤ x ≡ pos k *ℤ (v *ℤ pos D -ℤ x)
 slack-law k D (is _ _) (is _ _) = simp differences (omega arith)
 
-zero-law : (k : ℕ) → 0 < k → {x : ℤ} → AsDiff x → (pos k *ℤ x ≡ pos 0) ↔ (x ≡ pos 0)
+pub zero-law : (k : ℕ) → 0 < k → {x : ℤ} → AsDiff x → (pos k *ℤ x ≡ pos 0) ↔ (x ≡ pos 0)
 zero-law k h (is a b) =
     simp differences ((λ e. omega (arith, eq-of-mul-eq-mul-right k h a b (omega arith))), λ e. let q : a ≡ b = omega arith in omega (arith, ap (λ (x : ℕ). k * x) q))
 
@@ -51,23 +53,17 @@ module _ (k : ℕ) where
   slack-scaled D z es right r = ap (λ (y : ℤ). units (at right r) *ℤ pos (k * D) -ℤ y) (times-scaled z es r) ∙ slack-law k D (as-diff (units (at right r))) (as-diff (times z es r))
 
   module _ (above : 0 < k) where
-    zero-scaled : (xs : List ℤ) → Zero (scaled k xs) ↔ Zero xs
-    zero-scaled [] = ((λ h. h), λ h. h)
-    zero-scaled (x ∷ xs) =
-        let e = zero-law k above (as-diff x) in
-        let r = zero-scaled xs in
-        ((λ h. (e .0 (h .0), r .0 (h .1))), λ h. (e .1 (h .0), r .1 (h .1)))
+    all-scaled : (P : ℤ → Type 0) → ((x : ℤ) → P (pos k *ℤ x) ↔ P x) → (xs : List ℤ) → All P (scaled k xs) ↔ All P xs
+    all-scaled P e [] = ((λ h. h), λ h. h)
+    all-scaled P e (x ∷ xs) = let r = all-scaled P e xs in ((λ h. ((e x) .0 (h .0), r .0 (h .1))), λ h. ((e x) .1 (h .0), r .1 (h .1)))
 
-    nonnegative-scaled : (xs : List ℤ) → Nonnegative (scaled k xs) ↔ Nonnegative xs
-    nonnegative-scaled [] = ((λ h. h), λ h. h)
-    nonnegative-scaled (x ∷ xs) =
-        let e = sign-law k above (as-diff x) in
-        let r = nonnegative-scaled xs in
-        ((λ h. (e .0 (h .0), r .0 (h .1))), λ h. (e .1 (h .0), r .1 (h .1)))
+    -- a cone that asks the same of every slack
+    alike : {P : ℤ → Type 0} {Q : List ℤ → Type 0} → ((l : List ℤ) → All P l ↔ Q l) → ((x : ℤ) → P (pos k *ℤ x) ↔ P x) → (xs : List ℤ) → Q (scaled k xs) ↔ Q xs
+    alike {P} a e xs = let r = all-scaled P e xs in ((λ h. (a xs) .0 (r .0 ((a (scaled k xs)) .1 h))), λ h. (a (scaled k xs)) .0 (r .1 ((a xs) .1 h)))
 
     cone-scaled : (kind : ℕ) (xs : List ℤ) → InCone kind (scaled k xs) ↔ InCone kind xs
-    cone-scaled zero xs = zero-scaled xs
-    cone-scaled (suc zero) xs = nonnegative-scaled xs
+    cone-scaled zero xs = alike {P = IsZero} zero-all (λ x. zero-law k above (as-diff x)) xs
+    cone-scaled (suc zero) xs = alike {P = IsNonnegative} nonnegative-all (λ x. sign-law k above (as-diff x)) xs
     cone-scaled (suc (suc zero)) [] = ((λ h. h), λ h. h)
     cone-scaled (suc (suc zero)) (t ∷ xs) = second-order-scaled k above t xs
     cone-scaled (suc (suc (suc kind))) xs = ((λ h. h), λ h. h)

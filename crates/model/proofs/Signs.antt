@@ -1,41 +1,38 @@
 -- Floats that are not below zero, by their sign: a zero of either sign counts, and so do NaN and the infinities, which a written number is not.
-use Prim.Native.Nat.{ℕ, zero, suc, _+_, _*_, _/_, _^_, _≤_, _<_}
-use native.Mathlib.Nat.{zero-mul, zero-div, mul-pos, eq-of-mul-eq-mul-right}
+use Prim.Native.Nat.{ℕ, zero, suc, _+_, _*_, _^_, _≤_, _<_}
+use native.Mathlib.Nat.{zero-mul, mul-pos, eq-of-mul-eq-mul-right}
 use native.Mathlib.Omega.{arith}
 use mathlib.Core.Path.{_≡_, refl, sym, ap, _∙_, subst}
 use mathlib.Core.Bool.{Bool, true, false, not, cond, _||_, or-true}
 use lib.Dec.{ltb, eqb}
-use lib.Pow.{pow-pos}
-use lib.IntN.{ℤ, pos, negℤ}
+use lib.IntN.{ℤ, pos}
 use lib.Signed.{leZ-yes}
 use lib.Ieee
-use lib.Ieee.{Float, nan, inf, fin, Format, binary64, prec, emax, low, up, down, odd, round, mul, lt, unlike, ofBits}
+use lib.Ieee.{Float, nan, inf, fin, Format, prec, emax, low, up, down, odd, round, mul, lt, unlike, ofBits}
 use lib.Ieee.Fits.{round-is, up-pos, down-pos}
-use lib.Ieee.Exact.{HasValue, round-exact}
+use lib.Ieee.Exact.{HasValue}
 use borrow.Author.Tests.{ltb-false, eq-eqb, eqb-true}
-use Rattle.model.specs.Numbers.{half, unfit}
+use Rattle.model.specs.Numbers.{+0, half, unfit}
 use Rattle.model.specs.Conic.{units}
 use Rattle.model.specs.Meaning.{_≼_}
 use Rattle.model.proofs.Integers.{natural}
+use Rattle.model.proofs.Exact.{round-none, none-of, none-units}
 
 abbrev pub plus : Float → Bool
 plus nan = true
 plus (inf s) = true
 plus (fin s m e) = not s || eqb m 0
 
-none-units : (t : Bool) (m : ℕ) (e : ℤ) → m ≡ 0 → units (fin t m e) ≡ cond t (negℤ (pos 0)) (pos 0)
-unfolding units
-none-units t m e h =
-    let worth : ℕ → ℤ = λ k. let n = k * up e * 2 ^ low binary64 / down e in cond t (negℤ (pos n)) (pos n) in
-    ap worth h ∙ ap (λ (n : ℕ). cond t (negℤ (pos (n * 2 ^ low binary64 / down e))) (pos (n * 2 ^ low binary64 / down e))) (zero-mul (up e))
-    ∙ ap (λ (n : ℕ). cond t (negℤ (pos n)) (pos n)) (zero-div (down e))
-
 pub plus-units : (x : Float) → plus x ≡ true → pos 0 ≼ units x
 unfolding units
 plus-units nan h = leZ-yes tt
 plus-units (inf s) h = leZ-yes tt
 plus-units (fin false m e) h = natural _
-plus-units (fin true m e) h = subst (λ (x : ℤ). pos 0 ≼ x) (sym (none-units true m e (eqb-true m 0 h))) (leZ-yes tt)
+plus-units (fin true m e) h = subst (λ (x : ℤ). pos 0 ≼ x) (sym (none-units true m e (eqb-true m 0 h))) (natural 0)
+
+pub plus-cond : (b : Bool) (x y : Float) → (b ≡ true → plus x ≡ true) → (b ≡ false → plus y ≡ true) → plus (cond b x y) ≡ true
+plus-cond true x y f g = f refl
+plus-cond false x y f g = g refl
 
 -- ---- rounding keeps the sign
 
@@ -54,12 +51,10 @@ round-plus f num den = ap plus (round-is f false num den) ∙ kept-plus f _ _
 pub zero-plus : (x : Float) (s : Bool) (c : ℕ) → 0 < c → HasValue x s 0 c → plus x ≡ true
 zero-plus nan s c h v = refl
 zero-plus (inf t) s c h v = refl
-zero-plus (fin t m e) s c h v =
-    let none : m ≡ 0 = eq-of-mul-eq-mul-right (up e * c) (mul-pos (up-pos e) h) m 0 (omega (arith, v .1)) in
-    simp (eq-eqb m 0 none, or-true)
+zero-plus (fin t m e) s c h v = simp (eq-eqb m 0 (none-of t s m e c h v), or-true)
 
 round-zero : (f : Format) (s : Bool) (c : ℕ) → 0 < c → plus (round f s 0 c) ≡ true
-round-zero f s c h = zero-plus (round f s 0 c) s c h (round-exact f s 0 c 0 0 h (pow-pos (prec f)) (omega (arith, pow-pos (low f + suc (emax f)))) (omega arith))
+round-zero f s c h = zero-plus (round f s 0 c) s c h (round-none f s c h)
 
 -- ---- products
 
@@ -68,17 +63,9 @@ unfolding mul
 mul-plus f nan y a b = refl
 mul-plus f (inf s) nan a b = refl
 mul-plus f (inf s) (inf t) a b = refl
-mul-plus f (inf s) (fin t n d) a b = go (eqb n 0)
-  where
-    go : (c : Bool) → plus (cond c nan (inf (unlike s t))) ≡ true
-    go true = refl
-    go false = refl
+mul-plus f (inf s) (fin t n d) a b = plus-cond (eqb n 0) nan (inf (unlike s t)) (λ _. refl) (λ _. refl)
 mul-plus f (fin s m e) nan a b = refl
-mul-plus f (fin s m e) (inf t) a b = go (eqb m 0)
-  where
-    go : (c : Bool) → plus (cond c nan (inf (unlike s t))) ≡ true
-    go true = refl
-    go false = refl
+mul-plus f (fin s m e) (inf t) a b = plus-cond (eqb m 0) nan (inf (unlike s t)) (λ _. refl) (λ _. refl)
 mul-plus f (fin false m e) (fin false n d) a b = round-plus f (m * up e * (n * up d)) (down e * down d)
 mul-plus f (fin true m e) (fin t n d) a b =
     let none : m * up e * (n * up d) ≡ 0 = ap (λ (k : ℕ). k * up e * (n * up d)) (eqb-true m 0 a) ∙ omega arith in
@@ -87,7 +74,7 @@ mul-plus f (fin false m e) (fin true n d) a b =
     let none : m * up e * (n * up d) ≡ 0 = ap (λ (k : ℕ). m * up e * (k * up d)) (eqb-true n 0 b) ∙ omega arith in
     ap (λ (k : ℕ). plus (round f true k (down e * down d))) none ∙ round-zero f true (down e * down d) (mul-pos (down-pos e) (down-pos d))
 
--- ---- a weight that refusal 11 lets by, and 1/2
+-- ---- a weight that refusal 11 lets by, 1/2 and 0
 
 pub fit-plus : (w : Float) → unfit w ≡ false → plus w ≡ true
 unfolding lt ofBits
@@ -102,3 +89,7 @@ fit-plus (fin true m e) h =
 pub half-plus : plus half ≡ true
 unfolding ofBits
 half-plus = refl
+
+pub zero-is-plus : plus +0 ≡ true
+unfolding ofBits
+zero-is-plus = refl

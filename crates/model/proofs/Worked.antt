@@ -6,7 +6,7 @@ use mathlib.Core.Path.{_≡_, refl}
 use mathlib.Core.Bool.{false}
 use mathlib.Core.List.{[], _∷_}
 use lib.ListN.{getD, replicate}
-use lib.IntN.{ℤ, pos, negℤ, _+ℤ_, _-ℤ_, _*ℤ_}
+use lib.IntN.{ℤ, pos, negℤ, _+ℤ_, _-ℤ_, _*ℤ_, zero-*ℤ}
 use lib.Signed.{_≤ℤ_, leZ-yes}
 use lib.Ieee.{binary64, ofBits}
 use lib.Ieee
@@ -23,6 +23,7 @@ use Rattle.model.proofs.Integers.{View, over, under, view, AsDiff, is, 
 use Rattle.model.specs.Meaning.{one, Meaning}
 use Rattle.model.proofs.Units.{one-above, units-zero}
 use Rattle.model.proofs.Feasible.{feasible-cones}
+use Rattle.model.proofs.Scaling.{zero-law}
 use Rattle.model.proofs.Demand3.{Acceptable}
 use Rattle.model.proofs.Demand2.{demand2}
 use Rattle.model.proofs.Ledger.{everything}
@@ -135,9 +136,6 @@ wide-fails g = ((g .inequalities .intervals 0 (omega arith) (omega arith)) .1) .
 
 -- ---- case A of the ledger has no feasible point: at rest at both ends of two steps of equal length, a[1] is 0, so xi is 0 and no eta is 1/xi
 
-nil-law : (u D : ℕ) → 0 < u → {x : ℤ} → AsDiff x → pos u *ℤ x ≡ pos 0 *ℤ pos D → x ≡ pos 0
-nil-law u D h (is a b) = simp differences (λ e. omega (arith, eq-of-mul-eq-mul-right u h a b (omega arith)))
-
 rest-law : (u : ℕ) → 0 < u → {x b : ℤ} → AsDiff x → AsDiff b → pos u *ℤ (pos 0 -ℤ x) +ℤ pos u *ℤ (pos 0 +ℤ b) ≡ pos 0
     → pos u *ℤ (x -ℤ pos 0) +ℤ pos u *ℤ (b +ℤ pos 0) ≡ pos 0 → x ≡ pos 0
 rest-law u h (is a b) (is c d) = simp differences (λ e f. omega (arith, eq-of-mul-eq-mul-right u h a b (omega arith)))
@@ -168,10 +166,10 @@ module _ (D : ℕ) (z : ℕ → ℤ) where
   at-rest : Meaning caseA D z → z 1 ≡ pos 0
   unfolding stop
   at-rest g =
-      let a0 : z 0 ≡ pos 0 = nil-law one D one-above (as-diff (z 0)) (rw units-zero at (g .equalities .a-first)) in
-      let a2 : z 2 ≡ pos 0 = nil-law one D one-above (as-diff (z 2)) (rw units-zero at (g .equalities .a-last)) in
-      let b0 : z 3 ≡ pos 0 = nil-law one D one-above (as-diff (z 3)) (rw units-zero at (g .equalities .b-first)) in
-      let b2 : z 5 ≡ pos 0 = nil-law one D one-above (as-diff (z 5)) (rw units-zero at (g .equalities .b-last)) in
+      let a0 : z 0 ≡ pos 0 = (zero-law one one-above (as-diff (z 0))) .0 (rw (units-zero, zero-*ℤ (pos D)) at (g .equalities .a-first)) in
+      let a2 : z 2 ≡ pos 0 = (zero-law one one-above (as-diff (z 2))) .0 (rw (units-zero, zero-*ℤ (pos D)) at (g .equalities .a-last)) in
+      let b0 : z 3 ≡ pos 0 = (zero-law one one-above (as-diff (z 3))) .0 (rw (units-zero, zero-*ℤ (pos D)) at (g .equalities .b-first)) in
+      let b2 : z 5 ≡ pos 0 = (zero-law one one-above (as-diff (z 5))) .0 (rw (units-zero, zero-*ℤ (pos D)) at (g .equalities .b-last)) in
       rest-law one one-above (as-diff (z 1)) (as-diff (z 4)) (simp (a0, b0, one-spacing 0 (omega arith)) at (g .equalities .moving 0 (omega arith) (omega arith)))
       (simp (a2, b2, one-spacing 1 (omega arith)) at (g .equalities .moving 1 (omega arith) (omega arith)))
 
