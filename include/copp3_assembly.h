@@ -3,12 +3,16 @@
  *
  * A port of the assembly half of copp3_socp from TOPP-THU/copp f9a5f800ee (MIT
  * licence, see NOTICE). Grid, boundary states, coefficient tables and
- * objectives go in; entries, right side, cone list and linear cost come out. No
- * memory is reserved, nothing is kept between calls, no call fails to end, and
- * a refusal changes no byte of any buffer.
+ * objectives go in; entries, right side, cone list and linear cost come out,
+ * and an index that tells whose they are. No memory is reserved, nothing is kept
+ * between calls, no call fails to end, and a refusal changes no byte of any
+ * buffer.
  *
  * 1. Ask copp3_size how much will be written.
- * 2. Lend copp3_assemble seven buffers of these lengths, or longer ones.
+ * 2. Lend copp3_assemble seven buffers of these lengths, and an index buffer of
+ *    8*(objectives + 2) places, which sizing does not tell. All may be longer.
+ * 3. Ask copp3_owner_of_row and copp3_owner_of_column whose a row or a column
+ *    is; they answer from the index.
  *
  * Output
  * ------
@@ -27,6 +31,29 @@
  *
  * A number is computed as the published Rust computes it, with one rounding per
  * operation, and equals it bit for bit.
+ *
+ * Index
+ * -----
+ * There are two owners more than objectives: 0 the standard rows, 1 the root
+ * stage (the xi columns and their rows), 2 + i objective i. Owner k has eight
+ * numbers of the index, from place 8*k on:
+ *
+ *     place          number
+ *     8*k      + 0   first entry
+ *              + 1   first row
+ *              + 2   first cone
+ *              + 3   first column
+ *              + 4   number of entries
+ *              + 5   number of rows
+ *              + 6   number of cones
+ *              + 7   number of columns
+ *
+ * Together the owners have every entry, row and cone and every column from
+ * 2*(n + 1) on, each once and in the order of the owners. The columns of a and b
+ * have no owner, and the standard rows have no columns. An owner stands in the
+ * index also where it has nothing (the root stage without Time and
+ * ThermalEnergy, Linear always). Where a number of things is 0, the first one is
+ * how much there was before, with a and b among the columns.
  *
  * Letters
  * -------
@@ -75,9 +102,10 @@
  * Refusals
  * --------
  * Tested in rising number, save that 11 to 13 are tested objective by
- * objective, and that 15 for tables 2 to 15 comes after 16. Of several places
- * under one number the lowest is given (at 16, within a table, table 0 first).
- * Where nothing is said the place is 0. Minus zero counts as zero.
+ * objective, that 15 for tables 2 to 15 comes after 16, and 28 before 20. Of
+ * several places under one number the lowest is given (at 16, within a table,
+ * table 0 first). Where nothing is said the place is 0. Minus zero counts as
+ * zero.
  *
  *     0   accepted
  *
@@ -115,9 +143,14 @@
  *     Buffers (assembly only):
  *     19  a buffer is too short; place of the first: 0 rows, 1 columns,
  *         2 values, 3 right, 4 kinds, 5 dimensions, 6 cost
+ *     28  the index has fewer than 8*(objectives + 2) places (also answered by
+ *         the two functions on owners). Tested after 19 and before 20.
  *
  *     Numbers (assembly only):
  *     20  a number to be written to values, right or cost is not finite
+ *
+ *     Owners (copp3_owner_of_row and copp3_owner_of_column only):
+ *     29  no owner has the row or column; a column below 2*(n + 1) has none
  *
  *     This interface:
  *     40  the kind of an objective is above 3; place the first such index among
@@ -194,6 +227,21 @@ typedef struct {
 #define COPP3_CONE_NONNEGATIVE 1
 #define COPP3_CONE_SECOND_ORDER 2
 
+/* Owners of rows and columns; objective i is COPP3_OWNER_OBJECTIVE + i. */
+#define COPP3_OWNER_STANDARD_ROWS 0
+#define COPP3_OWNER_ROOT_STAGE 1
+#define COPP3_OWNER_OBJECTIVE 2
+
+/* Needed length of the index. */
+#define COPP3_INDEX_PLACES(objectives) (8 * ((size_t)(objectives) + 2))
+
+/* Number 0 with the owner, or 28 or 29 with owner 0. The place is always 0. */
+typedef struct {
+    uint64_t number;
+    uint64_t place;
+    uint64_t owner;
+} copp3_owner;
+
 /* Tells the four counts, or every refusal tested before 19. */
 copp3_answer copp3_size(
     copp3_job job, copp3_objectives objectives,
@@ -216,9 +264,10 @@ copp3_answer copp3_size(
     const double *end_roots, size_t end_roots_len,
     const double *pool, size_t pool_len);
 
-/* Writes an accepted problem from index 0 of each buffer, changes nothing past
- * the counts, and answers what copp3_size would answer. Succeeds exactly when
- * every buffer has its places and every number to be written is finite. */
+/* Writes an accepted problem from place 0 of each buffer, changes nothing past
+ * the counts and past the needed length of the index, and answers what
+ * copp3_size would answer. Succeeds exactly when every buffer has its places and
+ * every number to be written is finite. */
 copp3_answer copp3_assemble(
     copp3_job job, copp3_objectives objectives,
     const double *grid, size_t grid_len,
@@ -245,7 +294,20 @@ copp3_answer copp3_assemble(
     double *right, size_t right_len,
     uint8_t *kinds, size_t kinds_len,
     uint32_t *dimensions, size_t dimensions_len,
-    double *cost, size_t cost_len);
+    double *cost, size_t cost_len,
+    uint64_t *index, size_t index_len);
+
+/* Tells which owner has a row. The index may hold anything, written by the
+ * assembly or not, and the number of objectives and the row may be any: 28 if
+ * the index has fewer than 8*(objectives + 2) places, else the lowest owner whose
+ * rows hold this one, else 29. First row and number of rows are added without
+ * wrapping. Places past the needed ones are not looked at. */
+copp3_owner copp3_owner_of_row(
+    const uint64_t *index, size_t index_len, size_t objectives, size_t row);
+
+/* The same for a column. A column below 2*(n + 1) has no owner: 29. */
+copp3_owner copp3_owner_of_column(
+    const uint64_t *index, size_t index_len, size_t objectives, size_t column);
 
 #ifdef __cplusplus
 }

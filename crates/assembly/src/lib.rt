@@ -2,8 +2,11 @@
 
 ghost use mathlib.Core.Path.{_≡_};
 ghost use mathlib.Core.Bool.{not};
+ghost use Prim.Native.Nat.{_≤_};
+ghost use lib.Dec.{ltb};
 ghost use Rattle.model.specs.Problem.{problem};
 ghost use Rattle.model.specs.Verdicts.{_then_, refuse};
+ghost use Rattle.model.specs.Owners.{indexPlaces};
 ghost use Rattle.model.specs.Answers.{roomRefusal, verdictOf, assembly};
 ghost use Rattle.passes.specs.Program.{buffers, answered};
 use model::Answer;
@@ -14,17 +17,24 @@ use model::Verdict;
 use passes::every_number;
 use passes::write;
 
-// 19, then 20, of the four counts and of whether every number is finite.
-fn room_and_finite(counts: FourCounts, finite: bool, lengths: [usize; 7]) -> Verdict
-    ensures { λ r. ⌜ r ≡ (roomRefusal counts lengths then refuse 20 0 (not finite)) ⌝ }
+// 19, then 28 for an index so long, then 20, of the four counts, the number of objectives and of whether every number is finite.
+fn room_and_finite(
+    counts: FourCounts,
+    objectives: usize,
+    finite: bool,
+    lengths: [usize; 7],
+    long: usize,
+) -> Verdict
+    requires { ⌜ objectives ≤ 16 ⌝ }
+    ensures { λ r. ⌜ r ≡ (roomRefusal counts lengths then refuse 28 0 (ltb long (indexPlaces objectives)) then refuse 20 0 (not finite)) ⌝ }
 {
-    checks::first_of(
-        sizing::room(counts, lengths),
-        checks::refuse_if(20, 0, !finite),
-    )
+    let index = checks::refuse_if(28, 0, long < 8 * (objectives + 2));
+    let number = checks::refuse_if(20, 0, !finite);
+    let last = checks::first_of(index, number);
+    checks::first_of(sizing::room(counts, lengths), last)
 }
 
-// Every refusal, of buffers with these lengths.
+// Every refusal, of buffers with these lengths and an index so long.
 fn verdict(
     job: Job,
     objectives: [Objective; 16],
@@ -47,8 +57,9 @@ fn verdict(
     end_roots: &[f64],
     pool: &[f64],
     lengths: [usize; 7],
+    long: usize,
 ) -> Verdict
-    ensures { λ r. ⌜ r ≡ verdictOf (problem job objectives (now (grid .entry)) (now («acc_rows» .entry)) (now («jerk_rows» .entry)) (now (amax .entry)) (now («acc_a» .entry)) (now («acc_b» .entry)) (now («acc_max» .entry)) (now («jerk_a» .entry)) (now («jerk_b» .entry)) (now («jerk_c» .entry)) (now («jerk_max» .entry)) (now (thermal .entry)) (now («torque_a» .entry)) (now («torque_b» .entry)) (now («torque_g» .entry)) (now («start_roots» .entry)) (now («end_roots» .entry)) (now (pool .entry))) lengths ⌝ }
+    ensures { λ r. ⌜ r ≡ verdictOf (problem job objectives (now (grid .entry)) (now («acc_rows» .entry)) (now («jerk_rows» .entry)) (now (amax .entry)) (now («acc_a» .entry)) (now («acc_b» .entry)) (now («acc_max» .entry)) (now («jerk_a» .entry)) (now («jerk_b» .entry)) (now («jerk_c» .entry)) (now («jerk_max» .entry)) (now (thermal .entry)) (now («torque_a» .entry)) (now («torque_b» .entry)) (now («torque_g» .entry)) (now («start_roots» .entry)) (now («end_roots» .entry)) (now (pool .entry))) lengths long ⌝ }
 {
     let v = checks::check(
         job,
@@ -98,10 +109,10 @@ fn verdict(
         end_roots,
         pool,
     );
-    room_and_finite(counts, finite, lengths)
+    room_and_finite(counts, job.count, finite, lengths, long)
 }
 
-// The whole: a refusal with every buffer as it was, or the four counts with the program in the buffers.
+// The whole: a refusal with every buffer as it was, or the four counts with the program and its index in the buffers.
 pub fn assemble(
     job: Job,
     objectives: [Objective; 16],
@@ -130,8 +141,9 @@ pub fn assemble(
     kinds: &mut [u8],
     dimensions: &mut [u32],
     cost: &mut [f64],
+    index: &mut [usize],
 ) -> Answer
-    ensures { λ r. ⌜ answered r (buffers (now (rows .exit)) (now (columns .exit)) (now (values .exit)) (now (right .exit)) (now (kinds .exit)) (now (dimensions .exit)) (now (cost .exit))) ≡ assembly (problem job objectives (now (grid .entry)) (now («acc_rows» .entry)) (now («jerk_rows» .entry)) (now (amax .entry)) (now («acc_a» .entry)) (now («acc_b» .entry)) (now («acc_max» .entry)) (now («jerk_a» .entry)) (now («jerk_b» .entry)) (now («jerk_c» .entry)) (now («jerk_max» .entry)) (now (thermal .entry)) (now («torque_a» .entry)) (now («torque_b» .entry)) (now («torque_g» .entry)) (now («start_roots» .entry)) (now («end_roots» .entry)) (now (pool .entry))) (buffers (now (rows .entry)) (now (columns .entry)) (now (values .entry)) (now (right .entry)) (now (kinds .entry)) (now (dimensions .entry)) (now (cost .entry))) ⌝ }
+    ensures { λ r. ⌜ answered r (buffers (now (rows .exit)) (now (columns .exit)) (now (values .exit)) (now (right .exit)) (now (kinds .exit)) (now (dimensions .exit)) (now (cost .exit)) (now (index .exit))) ≡ assembly (problem job objectives (now (grid .entry)) (now («acc_rows» .entry)) (now («jerk_rows» .entry)) (now (amax .entry)) (now («acc_a» .entry)) (now («acc_b» .entry)) (now («acc_max» .entry)) (now («jerk_a» .entry)) (now («jerk_b» .entry)) (now («jerk_c» .entry)) (now («jerk_max» .entry)) (now (thermal .entry)) (now («torque_a» .entry)) (now («torque_b» .entry)) (now («torque_g» .entry)) (now («start_roots» .entry)) (now («end_roots» .entry)) (now (pool .entry))) (buffers (now (rows .entry)) (now (columns .entry)) (now (values .entry)) (now (right .entry)) (now (kinds .entry)) (now (dimensions .entry)) (now (cost .entry)) (now (index .entry))) ⌝ }
 {
     let lengths = [
         rows.len(),
@@ -142,6 +154,7 @@ pub fn assemble(
         dimensions.len(),
         cost.len(),
     ];
+    let long = index.len();
     let v = verdict(
         job,
         objectives,
@@ -164,6 +177,7 @@ pub fn assemble(
         end_roots,
         pool,
         lengths,
+        long,
     );
     if let Verdict::Refused { number, place } = v {
         return Answer::Refusal { number, place };
@@ -196,6 +210,7 @@ pub fn assemble(
         kinds,
         dimensions,
         cost,
+        index,
     );
     Answer::Counts {
         entries: t.entries,

@@ -11,7 +11,9 @@ ghost use Rattle.first_order.specs.Limits.{limits};
 ghost use Rattle.acc_jerk.specs.Tables.{AccSized, Few, JerkSized, accOf, jerkOf};
 ghost use Rattle.linear.specs.Charges.{Fits, abCost};
 ghost use Rattle.objectives.specs.Input.{lends, AllReady};
-ghost use Rattle.blocks.specs.Blocks.{standardWith, ownColumns};
+ghost use Rattle.blocks.specs.Blocks.{standardWith, ownBlocks};
+ghost use Rattle.objectives.specs.Owned.{builtOwners};
+use buffers::put_owner;
 use model::Ends;
 use model::Job;
 use model::Objective;
@@ -82,7 +84,7 @@ pub fn standard_block(
     )
 }
 
-// The root stage and the objectives' own rows and columns.
+// The root stage and the objectives' own rows and columns, each an owner of its own in the index.
 // 4213765 is the root stage's bound and the objectives', for at most 4097 stations.
 pub fn objective_blocks(
     t: Tally,
@@ -93,20 +95,43 @@ pub fn objective_blocks(
     k: &mut [u8],
     m: &mut [u32],
     q: &mut [f64],
+    job: Job,
+    os: [Objective; 16],
     s: &[f64],
-    e: Ends,
     y: &[f64],
     ta: &[f64],
     tb: &[f64],
     tg: &[f64],
-    d: usize,
     pool: &[f64],
-    os: [Objective; 16],
-    n: usize,
+    x: &mut [usize],
 ) -> Tally
-    requires { ⌜ RoomAll t 4213765 × Sized (now s) e × (n ≤ 16) × AllReady (lends (path (now s) e) (now y) (torqueOf d (now ta) (now tb) (now tg)) (now pool)) os n ⌝ }
-    ensures { λ t′. ⌜ built t r c v h k m q t′ (ownColumns (lends (path (now (s .entry)) e) (now (y .entry)) (torqueOf d (now (ta .entry)) (now (tb .entry)) (now (tg .entry))) (now (pool .entry))) (t .columns) (take n os)) 4213765 ⌝ }
+    requires { ⌜ RoomAll t 4213765 × (t .owner < 2 ^ 31) × Sized (now s) (job .ends) × (job .count ≤ 16) × AllReady (lends (path (now s) (job .ends)) (now y) (torqueOf (job .d) (now ta) (now tb) (now tg)) (now pool)) os (job .count) ⌝ }
+    ensures { λ t′. ⌜ builtOwners t r c v h k m q x t′ (ownBlocks (lends (path (now (s .entry)) (job .ends)) (now (y .entry)) (torqueOf (job .d) (now (ta .entry)) (now (tb .entry)) (now (tg .entry))) (now (pool .entry))) (t .columns) (take (job .count) os)) 4213765 ⌝ }
 {
-    let t = root_stage(t, r, c, v, h, k, m, q, s, e, os, n);
-    clarabel_objective_copp3(t, r, c, v, h, k, m, q, s, e, y, ta, tb, tg, d, pool, os, n)
+    let e = job.ends;
+    let d = job.d;
+    let n = job.count;
+    let u = root_stage(t, r, c, v, h, k, m, q, s, e, os, n);
+    let u = put_owner(t, u, x);
+    clarabel_objective_copp3(
+        u,
+        r,
+        c,
+        v,
+        h,
+        k,
+        m,
+        q,
+        s,
+        e,
+        y,
+        ta,
+        tb,
+        tg,
+        d,
+        pool,
+        os,
+        n,
+        x,
+    )
 }

@@ -14,8 +14,8 @@ use Rattle.model.specs.Numbers.{finite}
 use Rattle.model.specs.Lists.{list, over, joined}
 use Rattle.model.specs.Program.{Cell, cell, Band, band, row, Cone, cone, Block, Entry, entry, dimension, bandEntries, entriesFrom, rightSides}
 use Rattle.model.specs.Assembled.{allFinite}
-use Rattle.model.proofs.Shape.{heights, right-heights}
-use Rattle.model.proofs.Sums.{length-list}
+use Rattle.model.proofs.Shape.{heights, right-heights, entries-append, right-append}
+use Rattle.model.proofs.Sums.{length-list, joined-append}
 use Rattle.model.specs.declared.Tally.{Tally}
 use Rattle.buffers.specs.Buffers.{Chunk, chunk, none, join, bandsOf, ofBands, ofCones, ofBlock, State, state, moved, emit, Adds, Fills, Puts, Rights, FillsRight, PutsRight, Columns, Moves, Wrote, Overs, Lists, PutsCone, Steps, Closed, ClosedList, Costs, PutsCost, FillsCost, Built}
 
@@ -34,19 +34,6 @@ module _ {A : Type 0} where
   pub over-snoc : (f : ℕ → List A) (k c : ℕ) → over f k (suc c) ≡ over f k c ++ f (k + c)
   over-snoc f k zero = simp (add-zero, append-nil)
   over-snoc f k (suc c) = ap (λ (x : List A). f k ++ x) (over-snoc f (suc k) c) ∙ simp (append-assoc, suc-add, add-suc)
-
-  pub joined-append {κ} : {B : Type κ} (f : B → List A) (xs ys : List B) → joined f (xs ++ ys) ≡ joined f xs ++ joined f ys
-  joined-append f [] ys = refl
-  joined-append f (x ∷ xs) ys = ap (λ (l : List A). f x ++ l) (joined-append f xs ys) ∙ sym (append-assoc (f x) (joined f xs) (joined f ys))
-
-pub entries-append : (r : ℕ) (xs bs : List Band) → entriesFrom r (xs ++ bs) ≡ entriesFrom r xs ++ entriesFrom (r + length (rightSides xs)) bs
-entries-append r xs bs = go r xs ∙ rw (right-heights xs) where
-  go : (r : ℕ) (xs : List Band) → entriesFrom r (xs ++ bs) ≡ entriesFrom r xs ++ entriesFrom (r + heights xs) bs
-  go r [] = simp add-zero
-  go r (a ∷ xs) = ap (λ (x : List Entry). bandEntries r a ++ x) (go (r + a .height) xs) ∙ simp (append-assoc, add-assoc)
-
-pub right-append : (xs bs : List Band) → rightSides (xs ++ bs) ≡ rightSides xs ++ rightSides bs
-right-append xs bs = joined-append (λ b. list (b .right) 0 (b .height)) xs bs
 
 -- ---- flags
 
@@ -91,6 +78,7 @@ emit-emit a b s =
         rows = further (s .tally .rows) (a .right) (b .right) i;
         cones = further (s .tally .cones) (a .cones) (b .cones) i;
         columns = further (s .tally .columns) (a .cost) (b .cost) i;
+        owner = s .tally .owner;
       };
     }
 
@@ -110,6 +98,7 @@ emit-none s =
         rows = add-zero (s .tally .rows) i;
         cones = add-zero (s .tally .cones) i;
         columns = add-zero (s .tally .columns) i;
+        owner = s .tally .owner;
       };
     }
 
@@ -126,7 +115,7 @@ join-cones r xs ys =
 
 pub one-entry : {R C : List ℕ} {W : List Float} {t : Tally} {R′ C′ : List ℕ} {W′ : List Float} {r c : ℕ} {v : Float}
     → R′ ≡ set R (t .entries) r → C′ ≡ set C (t .entries) c → W′ ≡ set W (t .entries) v
-    → Puts t R C W (record { entries = t .entries + 1; rows = t .rows; cones = t .cones; columns = t .columns }) R′ C′ W′ (entry r (cell c v))
+    → Puts t R C W (record { entries = t .entries + 1; rows = t .rows; cones = t .cones; columns = t .columns; owner = t .owner }) R′ C′ W′ (entry r (cell c v))
 unfolding emit
 one-entry {t} pr pc pv =
     record {
@@ -144,6 +133,7 @@ one-entry {t} pr pc pv =
             rows = sym (add-zero (t .rows)) i;
             cones = sym (add-zero (t .cones)) i;
             columns = sym (add-zero (t .columns)) i;
+            owner = t .owner;
           };
         };
       };
@@ -155,7 +145,7 @@ one-entry {t} pr pc pv =
 
 pub one-right : {H : List Float} {t : Tally} {H′ : List Float} {v : Float}
     → H′ ≡ set H (t .rows) v
-    → PutsRight t H (record { entries = t .entries; rows = t .rows + 1; cones = t .cones; columns = t .columns }) H′ v
+    → PutsRight t H (record { entries = t .entries; rows = t .rows + 1; cones = t .cones; columns = t .columns; owner = t .owner }) H′ v
 unfolding emit
 one-right {t} ph =
     record {
@@ -173,6 +163,7 @@ one-right {t} ph =
             rows = t .rows + 1;
             cones = sym (add-zero (t .cones)) i;
             columns = sym (add-zero (t .columns)) i;
+            owner = t .owner;
           };
         };
       };
@@ -184,7 +175,7 @@ one-right {t} ph =
 
 pub one-cost : {Q : List Float} {t : Tally} {Q′ : List Float} {v : Float}
     → Q′ ≡ set Q (t .columns) v
-    → PutsCost t Q (record { entries = t .entries; rows = t .rows; cones = t .cones; columns = t .columns + 1 }) Q′ v
+    → PutsCost t Q (record { entries = t .entries; rows = t .rows; cones = t .cones; columns = t .columns + 1; owner = t .owner }) Q′ v
 unfolding emit
 one-cost {t} {v} ph =
     record {
@@ -202,6 +193,7 @@ one-cost {t} {v} ph =
             rows = sym (add-zero (t .rows)) i;
             cones = sym (add-zero (t .cones)) i;
             columns = t .columns + 1;
+            owner = t .owner;
           };
         };
       };
@@ -212,8 +204,8 @@ one-cost {t} {v} ph =
     }
 
 pub one-cone : {K D : List ℕ} {t : Tally} {K′ D′ : List ℕ} {k d : ℕ} → K′ ≡ set K (t .cones) k → D′ ≡ set D (t .cones) d
-    → PutsCone t K D (record { entries = t .entries; rows = t .rows; cones = t .cones + 1; columns = t .columns }) K′ D′ k d
-one-cone pk pd = record { kinds = pk; dims = pd; entries = refl; rows = refl; cones = refl; columns = refl }
+    → PutsCone t K D (record { entries = t .entries; rows = t .rows; cones = t .cones + 1; columns = t .columns; owner = t .owner }) K′ D′ k d
+one-cone pk pd = record { kinds = pk; dims = pd; entries = refl; rows = refl; cones = refl; columns = refl; owner = refl }
 
 -- ---- entries after entries
 
@@ -537,6 +529,7 @@ module _ {t : Tally} {R C : List ℕ} {W H : List Float} {K D : List ℕ} where
           rows = (g .rows ∙ sym (add-zero (t′ .rows))) i;
           cones = g .cones i;
           columns = (g .columns ∙ sym (add-zero (t′ .columns))) i;
+          owner = g .owner i;
         };
       } in
       let m = p .moves in

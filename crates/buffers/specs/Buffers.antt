@@ -60,6 +60,7 @@ moved a t =
       rows = t .rows + length (a .right);
       cones = t .cones + length (a .cones);
       columns = t .columns + length (a .cost);
+      owner = t .owner;
     }
 
 -- A chunk laid over the buffers at the tally's places. `sets xs i ys` is xs with ys stored from index i on; what is past the end is left out.
@@ -153,6 +154,7 @@ pub record PutsCone (t : Tally) (k d : List ℕ) (t′ : Tally) (k′ d′ : Lis
   pub rows : t′ .rows ≡ t .rows
   pub cones : t′ .cones ≡ t .cones + 1
   pub columns : t′ .columns ≡ t .columns
+  pub owner : t′ .owner ≡ t .owner
 
 -- as Moves, with at most so many cones as rows
 pub record Steps (t t′ : Tally) (b : ℕ) : Type 0 where

@@ -5,10 +5,12 @@ ghost use mathlib.Core.Bool.{true, false};
 ghost use mathlib.Core.List.{[], _∷_};
 ghost use Prim.Native.Nat.{_+_, _-_, _*_, _^_, _<_, _≤_, min};
 ghost use lib.ListN.{length, set};
+ghost use lib.Seq.{sets};
 ghost use Rattle.model.specs.Numbers.{at, _⊖_, _⊗_};
 ghost use Rattle.model.specs.Lists.{list};
 ghost use Rattle.model.specs.Program.{cell, row, entry, positiveRow};
 ghost use Rattle.buffers.specs.Lent.{Room, term, puts, fills, columns, putsRight, fillsRight, wrote, putsCone, putsCost, fillsCost};
+ghost use Rattle.buffers.specs.Owned.{putsOwner};
 use model::Column;
 use model::Ends;
 use model::Row;
@@ -57,6 +59,47 @@ fn store_byte(zs: &mut [u8], at: usize, x: u8)
     }
 }
 
+// A number of the index.
+fn store_wide(ws: &mut [usize], at: usize, x: usize)
+    ensures { λ _. ⌜ now (ws .exit) ≡ set (now (ws .entry)) at x ⌝ }
+{
+    if at < ws.len() {
+        ws[at] = x;
+    }
+}
+
+// Four numbers, one after another.
+fn store_four(ws: &mut [usize], at: usize, a: usize, b: usize, c: usize, d: usize)
+    requires { ⌜ at + 4 < 2 ^ 64 ⌝ }
+    ensures { λ _. ⌜ now (ws .exit) ≡ sets (now (ws .entry)) at (a ∷ b ∷ c ∷ d ∷ []) ⌝ }
+{
+    store_wide(ws, at, a);
+    store_wide(ws, at + 1, b);
+    store_wide(ws, at + 2, c);
+    store_wide(ws, at + 3, d);
+}
+
+// The index of the owner being written, whose block began at tally t and ended at u: the firsts, then the lengths. Then the next owner is written.
+pub fn put_owner(t: Tally, u: Tally, index: &mut [usize]) -> Tally
+    requires { ⌜ (t .entries ≤ u .entries) × (t .rows ≤ u .rows) × (t .cones ≤ u .cones) × (t .columns ≤ u .columns) × (t .owner < 2 ^ 60) ⌝ }
+    ensures { λ r. ⌜ putsOwner t u index r ⌝ }
+{
+    let at = 8 * t.owner;
+    store_four(index, at, t.entries, t.rows, t.cones, t.columns);
+    let entries = u.entries - t.entries;
+    let rows = u.rows - t.rows;
+    let cones = u.cones - t.cones;
+    let columns = u.columns - t.columns;
+    store_four(index, at + 4, entries, rows, cones, columns);
+    Tally {
+        entries: u.entries,
+        rows: u.rows,
+        cones: u.cones,
+        columns: u.columns,
+        owner: t.owner + 1,
+    }
+}
+
 // One entry more.
 pub fn put(
     t: Tally,
@@ -78,6 +121,7 @@ pub fn put(
         rows: t.rows,
         cones: t.cones,
         columns: t.columns,
+        owner: t.owner,
     }
 }
 
@@ -102,6 +146,7 @@ fn put_inside(
         rows: t.rows,
         cones: t.cones,
         columns: t.columns,
+        owner: t.owner,
     }
 }
 
@@ -135,6 +180,7 @@ pub fn put_right(t: Tally, right: &mut [f64], x: f64) -> Tally
         rows: at + 1,
         cones: t.cones,
         columns: t.columns,
+        owner: t.owner,
     }
 }
 
@@ -151,6 +197,7 @@ pub fn put_cone(t: Tally, kinds: &mut [u8], dims: &mut [u32], kind: u8, dim: usi
         rows: t.rows,
         cones: at + 1,
         columns: t.columns,
+        owner: t.owner,
     }
 }
 
@@ -166,6 +213,7 @@ pub fn put_cost(t: Tally, cost: &mut [f64], x: f64) -> Tally
         rows: t.rows,
         cones: t.cones,
         columns: at + 1,
+        owner: t.owner,
     }
 }
 

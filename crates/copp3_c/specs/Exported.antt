@@ -1,4 +1,4 @@
--- What the exported functions add to sizing and the assembly: plain records for objectives and for the answer, and the judgement of a kind.
+-- What the exported functions add: plain records for objectives and for the answers, and the judgement of a kind.
 use Prim.Native.Nat.{ℕ, min}
 use mathlib.Core.Bool.{cond}
 use mathlib.Core.List.{List, [], _∷_}
@@ -14,6 +14,7 @@ use Rattle.model.specs.declared.Objective.{Objective}
 use Rattle.model.specs.declared.Objective.the-variants.{Time, ThermalEnergy, TotalVariationTorque, Linear}
 use Rattle.copp3_c.specs.declared.ObjectiveRecord.{ObjectiveRecord}
 use Rattle.copp3_c.specs.declared.AnswerRecord.{AnswerRecord}
+use Rattle.copp3_c.specs.declared.OwnerRecord.{OwnerRecord}
 
 -- kind 0 Time, 1 ThermalEnergy, 2 TotalVariationTorque, 3 Linear; an unknown kind is refused before it is looked at
 unfoldable pub objectiveOf : ObjectiveRecord → Objective
@@ -36,6 +37,13 @@ answerRecord t =
     cond (eqb (length (t .values)) 1)
     (record { number = t .number; place = getD (t .values) 0 0; entries = 0; rows = 0; cones = 0; columns = 0 })
     (record { number = t .number; place = 0; entries = getD (t .values) 0 0; rows = getD (t .values) 1 0; cones = getD (t .values) 2 0; columns = getD (t .values) 3 0 })
+
+-- an owner, and place 0; or a refusal's number and place, and no owner
+unfoldable pub ownerRecord : Told → OwnerRecord
+ownerRecord t =
+    cond (eqb (t .number) 0)
+    (record { number = 0; place = 0; owner = getD (t .values) 0 0 })
+    (record { number = t .number; place = getD (t .values) 0 0; owner = 0 })
 
 -- the kinds are judged before refusal 1; what is refused changes no buffer
 unfoldable pub sizingAfter : Verdict → Problem → Told

@@ -1,15 +1,20 @@
-// Sizing and the assembly for C and Rust. Objectives come as plain records with a kind; include/copp3_assembly.h is the same for C.
+// Sizing, the assembly and the owners of rows and columns for C and Rust. Objectives come as plain records with a kind; include/copp3_assembly.h is the same for C.
 
 ghost use mathlib.Core.Path.{_≡_};
 ghost use mathlib.Core.List.{map};
-ghost use Prim.Native.Nat.{min};
-ghost use Rattle.copp3_c.specs.Exported.{objectiveOf, kindRefusal, answerRecord, sizingAfter, assemblyAfter, exported, exportedAs};
+ghost use Prim.Native.Nat.{ℕ, min, _+_, _^_, _<_};
+ghost use Rattle.copp3_c.specs.Exported.{objectiveOf, kindRefusal, answerRecord, ownerRecord, sizingAfter, assemblyAfter, exported, exportedAs};
 ghost use Rattle.model.specs.Problem.{problem};
 ghost use Rattle.model.specs.Answers.{told};
+ghost use Rattle.model.specs.OwnerAnswers.{toldOwner, ownerOfRow, ownerOfColumn};
+ghost use Rattle.model.specs.declared.OwnerAnswer.the-variants.{ObjectiveNumber};
 ghost use Rattle.passes.specs.Program.{buffers};
 use model::Answer;
+use model::Column;
 use model::Job;
 use model::Objective;
+use model::OwnerAnswer;
+use model::Row;
 use model::Verdict;
 
 // kind: 0 Time, 1 ThermalEnergy, 2 TotalVariationTorque, 3 Linear. The parts (start, length) of the pool: scales, or alpha and then beta.
@@ -37,6 +42,14 @@ pub struct AnswerRecord {
     pub rows: usize,
     pub cones: usize,
     pub columns: usize,
+}
+
+// number 0: the owner, 0 standard rows, 1 root stage, 2 + i objective i; else a refusal's number and place.
+#[repr(C)]
+pub struct OwnerRecord {
+    pub number: usize,
+    pub place: usize,
+    pub owner: usize,
 }
 
 // The objective that a record stands for.
@@ -131,6 +144,39 @@ fn answer_record(a: Answer) -> AnswerRecord
     }
 }
 
+fn owner_record(a: OwnerAnswer) -> OwnerRecord
+    requires { ⌜ ((i : ℕ) → a ≡ ObjectiveNumber i → 2 + i < 2 ^ 64) ⌝ }
+    ensures { λ r. ⌜ r ≡ ownerRecord (toldOwner a) ⌝ }
+{
+    match a {
+        OwnerAnswer::StandardRows => OwnerRecord {
+            number: 0,
+            place: 0,
+            owner: 0,
+        },
+        OwnerAnswer::RootStage => OwnerRecord {
+            number: 0,
+            place: 0,
+            owner: 1,
+        },
+        OwnerAnswer::ObjectiveNumber(i) => OwnerRecord {
+            number: 0,
+            place: 0,
+            owner: 2 + i,
+        },
+        OwnerAnswer::IndexTooShort => OwnerRecord {
+            number: 28,
+            place: 0,
+            owner: 0,
+        },
+        OwnerAnswer::NotCovered => OwnerRecord {
+            number: 29,
+            place: 0,
+            owner: 0,
+        },
+    }
+}
+
 // Document 01's sizing: every refusal tested before 19, or the four counts.
 #[no_mangle]
 pub extern "C" fn copp3_size(
@@ -160,10 +206,7 @@ pub extern "C" fn copp3_size(
     let items = records.items;
     let known = kind_check(items, job.count);
     if let Verdict::Refused { number, place } = known {
-        return answer_record(Answer::Refusal {
-            number: number,
-            place: place,
-        });
+        return answer_record(Answer::Refusal { number, place });
     }
     let a = sizing::size(
         job,
@@ -220,16 +263,14 @@ pub extern "C" fn copp3_assemble(
     kinds: &mut [u8],
     dimensions: &mut [u32],
     cost: &mut [f64],
+    index: &mut [usize],
 ) -> AnswerRecord
-    ensures { λ r. ⌜ exported r (buffers (now (rows .exit)) (now (columns .exit)) (now (values .exit)) (now (right .exit)) (now (kinds .exit)) (now (dimensions .exit)) (now (cost .exit))) ≡ exportedAs (assemblyAfter (kindRefusal (job .count) (records .items)) (problem job (map objectiveOf (records .items)) (now (grid .entry)) (now («acc_rows» .entry)) (now («jerk_rows» .entry)) (now (amax .entry)) (now («acc_a» .entry)) (now («acc_b» .entry)) (now («acc_max» .entry)) (now («jerk_a» .entry)) (now («jerk_b» .entry)) (now («jerk_c» .entry)) (now («jerk_max» .entry)) (now (thermal .entry)) (now («torque_a» .entry)) (now («torque_b» .entry)) (now («torque_g» .entry)) (now («start_roots» .entry)) (now («end_roots» .entry)) (now (pool .entry))) (buffers (now (rows .entry)) (now (columns .entry)) (now (values .entry)) (now (right .entry)) (now (kinds .entry)) (now (dimensions .entry)) (now (cost .entry)))) ⌝ }
+    ensures { λ r. ⌜ exported r (buffers (now (rows .exit)) (now (columns .exit)) (now (values .exit)) (now (right .exit)) (now (kinds .exit)) (now (dimensions .exit)) (now (cost .exit)) (now (index .exit))) ≡ exportedAs (assemblyAfter (kindRefusal (job .count) (records .items)) (problem job (map objectiveOf (records .items)) (now (grid .entry)) (now («acc_rows» .entry)) (now («jerk_rows» .entry)) (now (amax .entry)) (now («acc_a» .entry)) (now («acc_b» .entry)) (now («acc_max» .entry)) (now («jerk_a» .entry)) (now («jerk_b» .entry)) (now («jerk_c» .entry)) (now («jerk_max» .entry)) (now (thermal .entry)) (now («torque_a» .entry)) (now («torque_b» .entry)) (now («torque_g» .entry)) (now («start_roots» .entry)) (now («end_roots» .entry)) (now (pool .entry))) (buffers (now (rows .entry)) (now (columns .entry)) (now (values .entry)) (now (right .entry)) (now (kinds .entry)) (now (dimensions .entry)) (now (cost .entry)) (now (index .entry)))) ⌝ }
 {
     let items = records.items;
     let known = kind_check(items, job.count);
     if let Verdict::Refused { number, place } = known {
-        return answer_record(Answer::Refusal {
-            number: number,
-            place: place,
-        });
+        return answer_record(Answer::Refusal { number, place });
     }
     let a = assembly::assemble(
         job,
@@ -259,6 +300,29 @@ pub extern "C" fn copp3_assemble(
         kinds,
         dimensions,
         cost,
+        index,
     );
     answer_record(a)
+}
+
+// Request 6: the owner of a row, by an index with a number of objectives. Here a row number is plain for the last time.
+#[no_mangle]
+pub extern "C" fn copp3_owner_of_row(index: &[usize], objectives: usize, row: usize) -> OwnerRecord
+    ensures { λ r. ⌜ r ≡ ownerRecord (ownerOfRow (now (index .entry)) objectives row) ⌝ }
+{
+    let a = owners::owner_of_row(index, objectives, Row { at: row });
+    owner_record(a)
+}
+
+// Request 6: the owner of a column.
+#[no_mangle]
+pub extern "C" fn copp3_owner_of_column(
+    index: &[usize],
+    objectives: usize,
+    column: usize,
+) -> OwnerRecord
+    ensures { λ r. ⌜ r ≡ ownerRecord (ownerOfColumn (now (index .entry)) objectives column) ⌝ }
+{
+    let a = owners::owner_of_column(index, objectives, Column { at: column });
+    owner_record(a)
 }

@@ -13,7 +13,8 @@ use Rattle.model.specs.Numbers.{finite, +0}
 use Rattle.model.specs.Lists.{list, over, given, joined}
 use Rattle.model.specs.Program.{Cell, Band, Cone, Block, entry, positiveRow, bandEntries, entriesFrom, rightSides}
 use Rattle.model.specs.Assembled.{allFinite}
-use Rattle.buffers.proofs.Laws.{and-assoc, all-append, joined-append}
+use Rattle.model.proofs.Sums.{joined-append}
+use Rattle.buffers.proofs.Laws.{and-assoc, all-append}
 use Rattle.finiteness.specs.Finite.{each, Each, ifTest, finiteColumns, finiteBand, finiteBands, finiteCones, finiteBlock, finiteBlocks}
 
 -- ---- flags

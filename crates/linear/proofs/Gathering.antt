@@ -17,7 +17,8 @@ use Rattle.model.specs.declared.Ends.{Ends}
 use Rattle.model.specs.declared.Objective.{Objective}
 use Rattle.model.specs.declared.Objective.the-variants.{Time, ThermalEnergy, TotalVariationTorque, Linear}
 use Rattle.model.proofs.All.{All, all-list}
-use Rattle.buffers.proofs.Laws.{list-snoc, joined-append}
+use Rattle.model.proofs.Sums.{joined-append}
+use Rattle.buffers.proofs.Laws.{list-snoc}
 use Rattle.linear.specs.Charges.{Charged, chargedAt, chargesOf, abCost, Fits, Long, AllLong, Gathers, only, gathered, Gives}
 use Rattle.linear.proofs.Charges.{charged-then}
 use Rattle.linear.proofs.Columns.{list-cong}

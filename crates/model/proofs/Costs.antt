@@ -139,10 +139,17 @@ module _ (p : Problem) where
   abbrev zeros : List Float
   zeros = replicate (2 * (n q + 1)) +0
 
-  -- the a and b columns as the charges leave them, then each block's own
-  pub cost-parts : Sizes q → cost p ≡ charged zeros (allCharges (blocks p)) ++ joined (λ b. b .cost) (blocks p)
+  -- the a and b columns as the charges leave them
+  abbrev pub stationColumns : List Float
+  stationColumns = charged zeros (allCharges (blocks p))
+
+  -- and then each block's own
+  pub cost-parts : Sizes q → cost p ≡ stationColumns ++ joined (λ b. b .cost) (blocks p)
   unfolding cost
   cost-parts l = ap (λ (l : List Float). costAfter l (blocks p)) (sym (append-nil zeros)) ∙ cost-front (2 * (n q + 1)) zeros [] (blocks p) (length-replicate (2 * (n q + 1)) +0) (blocks-before l)
+
+  pub stations-long : length stationColumns ≡ 2 * (n q + 1)
+  stations-long = charged-length zeros (allCharges (blocks p)) ∙ length-replicate (2 * (n q + 1)) +0
 
   module _ (z : ℕ → ℤ) where
     -- ---- an objective's own columns
@@ -180,19 +187,16 @@ module _ (p : Problem) where
         ∙ ap₂ _+ℤ_ (root-cost c) (objectives-cost (c + width (root p)) (objectives p) ∙ ap (λ (k : ℕ). objectivesCost p z (c + k) (objectives p)) (root-width p))
         ∙ +ℤ-idl _
 
-    stations-long : length (charged zeros (allCharges (blocks p))) ≡ 2 * (n q + 1)
-    stations-long = charged-length zeros (allCharges (blocks p)) ∙ length-replicate (2 * (n q + 1)) +0
-
-    stations-cost : Sizes q → worth z (charged zeros (allCharges (blocks p))) 0 ≡ stationsCost p z
+    stations-cost : Sizes q → worth z stationColumns 0 ≡ stationsCost p z
     stations-cost l =
-        let first = charged zeros (allCharges (blocks p)) in
+        let first = stationColumns in
         worth-by z first (at (cost p)) 0 (λ i h. sym (ap (λ (l : List Float). at l i) (cost-parts l) ∙ List·getD-append first (joined (λ b. b .cost) (blocks p)) nan i h))
         ∙ sumTo-ext _ _ (length first) (λ i h. ap (λ (k : ℕ). units (at (cost p) i) *ℤ z k) (zero-add i)) ∙ ap (sumTo (λ c. units (at (cost p) c) *ℤ z c)) stations-long
 
     pub costs-add : Sizes q → costAt p z ≡ stationsCost p z +ℤ objectivesCost p z (firstOwnColumn p) (objectives p)
     unfolding costAt
     costs-add l =
-        let first = charged zeros (allCharges (blocks p)) in
+        let first = stationColumns in
         let rest = joined (λ b. b .cost) (blocks p) in
         sumTo-ext _ _ (length (cost p)) (λ i h. ap (λ (k : ℕ). units (at (cost p) i) *ℤ z k) (sym (zero-add i)))
         ∙ sym (worth-by z (cost p) (at (cost p)) 0 (λ i h. refl))

@@ -5,20 +5,21 @@ use mathlib.Core.Path.{_≡_, refl, ap}
 use mathlib.Core.Logic.{_↔_, _≢_}
 use mathlib.Core.Bool.{Bool, true, false}
 use mathlib.Core.List.{List, [], _∷_}
+use lib.ListN.{length}
 use lib.Dec.{ltb}
 use borrow.Author.Tests.{ltb-true}
 use Rattle.model.specs.Problem.{Problem, n}
 use Rattle.model.specs.Verdicts.{_then_, refuse, lowest}
 use Rattle.model.specs.Refusals.{refusal, gridRefusal, setupRefusal, tablesRefusal, boundsRefusal, objectivesRefusal, listsRefusal, scalesRefusal, listRefusal, table, tableIf}
 use Rattle.model.specs.Counts.{counts}
-use Rattle.model.specs.Answers.{Told, outcome, sizing, Buffers, lengths, roomRefusal, finiteRefusal, result, assembly}
+use Rattle.model.specs.Answers.{Told, outcome, sizing, Buffers, lengths, roomRefusal, indexRefusal, finiteRefusal, result, assembly}
 use Rattle.model.specs.declared.Objective.{Objective}
 use Rattle.model.specs.declared.Objective.the-variants.{Time, ThermalEnergy, TotalVariationTorque, Linear}
 use Rattle.model.specs.declared.Verdict.{Verdict}
 use Rattle.model.specs.declared.Verdict.the-variants.{Accepted, Refused}
 use Rattle.model.proofs.Passes.{then-passes}
 use Rattle.model.proofs.Demand3.{Acceptable, demand3}
-use Rattle.model.proofs.Room.{Enough, room-passes}
+use Rattle.model.proofs.Room.{Enough, room-passes, HasIndex, index-passes}
 
 -- no refusal has the number 0, which tells of a success
 pub record Numbered (v : Verdict) : Type 0 where
@@ -97,21 +98,21 @@ module _ (p : Problem) (b : Buffers) where
   unfolding assembly sizing
   refused-alike = refused-first (refusal p) _ p b
 
-  rest-numbered : Numbered (roomRefusal (counts p) (lengths b) then finiteRefusal p)
-  unfolding roomRefusal finiteRefusal
+  rest-numbered : Numbered (roomRefusal (counts p) (lengths b) then indexRefusal p (length (b .index)) then finiteRefusal p)
+  unfolding roomRefusal indexRefusal finiteRefusal
   rest-numbered = search numbers depth 10
 
-  zero-only-then : assembly p b .told .number ≡ 0 → Acceptable p × Enough (counts p) b
+  zero-only-then : assembly p b .told .number ≡ 0 → Acceptable p × Enough (counts p) b × HasIndex p b
   unfolding assembly
   zero-only-then e =
       let v = zero-accepts _ p b (numbered-then _ _ (refusal-numbered p) rest-numbered) e in
-      let h = simp (then-passes, room-passes) at v in
-      ((then-passes (refusal p) (finiteRefusal p)) .1 (h .0, h .1 .1), h .1 .0)
+      let h = simp (then-passes, room-passes, index-passes) at v in
+      ((then-passes (refusal p) (finiteRefusal p)) .1 (h .0, h .1 .1 .1), h .1 .0, h .1 .1 .0)
 
-  zero-then : Acceptable p × Enough (counts p) b → assembly p b .told .number ≡ 0
+  zero-then : Acceptable p × Enough (counts p) b × HasIndex p b → assembly p b .told .number ≡ 0
   unfolding outcome
-  zero-then h = ap (λ (x : Told). x .number) ((demand3 p (h .0) .succeeds-exactly b) .1 (h .1))
+  zero-then h = ap (λ (x : Told). x .number) ((demand3 p (h .0) .succeeds-exactly b (h .2)) .1 (h .1))
 
   -- "Accepted: every other problem, with nothing tested beforehand by the caller"
-  pub accepted-exactly : (assembly p b .told .number ≡ 0) ↔ (Acceptable p × Enough (counts p) b)
+  pub accepted-exactly : (assembly p b .told .number ≡ 0) ↔ (Acceptable p × Enough (counts p) b × HasIndex p b)
   accepted-exactly = (zero-only-then, zero-then)

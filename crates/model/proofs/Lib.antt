@@ -44,3 +44,9 @@ pub mod Travel
 pub mod Demand2
 pub mod Worked
 pub mod Ledger
+pub mod Owned
+pub mod Slices
+pub mod OwnersTold
+pub mod Reweighed
+pub mod IndexFits
+pub mod Request6

@@ -1,4 +1,4 @@
--- Refusal 19, over the buffers' index: it finds nothing if every buffer is long enough, and else the first that is not.
+-- Refusal 19, over the buffers' numbers: it finds nothing if every buffer is long enough, and else the first that is not. Then refusal 28.
 use Prim.Native.Nat.{ℕ, zero, suc, _+_, _≤_, _<_}
 use native.Mathlib.Omega.{arith}
 use native.Mathlib.Decide.{ℕ-discrete}
@@ -6,14 +6,17 @@ use mathlib.Core.Path.{_≡_, refl}
 use mathlib.Core.Logic.{_↔_}
 use mathlib.Core.Bool.{Bool, true, false}
 use mathlib.Core.List.{List, [], _∷_}
-use lib.ListN.{getD}
+use lib.ListN.{length, getD}
 use lib.Dec.{ltb}
 use borrow.Author.Tests.{ltb-true, ltb-false, lt-ltb, le-ltb}
 use Rattle.model.specs.Verdicts.{_then_, refuse, lowest, itself}
-use Rattle.model.specs.Answers.{Buffers, lengths, roomRefusal}
+use Rattle.model.specs.Problem.{Problem, objectives}
+use Rattle.model.specs.Owners.{indexPlaces}
+use Rattle.model.specs.Answers.{Buffers, lengths, roomRefusal, indexRefusal}
 use Rattle.model.specs.declared.FourCounts.{FourCounts}
 use Rattle.model.specs.declared.Verdict.{Verdict}
 use Rattle.model.specs.declared.Verdict.the-variants.{Accepted, Refused}
+use Rattle.model.proofs.Passes.{refuse-passes}
 
 pub then-accepted : (v : Verdict) → (v then Accepted) ≡ v
 unfolding _then_
@@ -27,6 +30,10 @@ pub record First (test : ℕ → Bool) (k i : ℕ) : Type 0 where
   pub above : k ≤ i
   pub passes : test i ≡ true
   pub earlier : (j : ℕ) → k ≤ j → j < i → test j ≡ false
+
+-- from k on, and it is not k
+pub later : {test : ℕ → Bool} {k i : ℕ} → First test k i → suc k ≤ i → First test (suc k) i
+later f h = record { above = h; passes = f .passes; earlier = λ j a b. f .earlier j (omega arith) b }
 
 -- among c numbers from k on there is none, or a first one
 pub data Looked (test : ℕ → Bool) (k c : ℕ) : Type 0 where
@@ -66,7 +73,7 @@ module _ (test : ℕ → Bool) where
         go next (yes q) = simp (q, f .passes)
         go next (no q) =
             simp (f .earlier k (omega arith) (omega arith))
-            (next (omega arith) (record { above = omega arith; passes = f .passes; earlier = λ j a b. f .earlier j (omega arith) b }))
+            (next (omega arith) (later f (omega arith)))
 
 -- ---- the seven buffers
 
@@ -128,3 +135,20 @@ module _ (t : FourCounts) (b : Buffers) where
       go : roomRefusal t (lengths b) ≡ Accepted → Room t b → Enough t b
       go e (enough h) = h
       go e (short i s) = let z : _≡_ {A = ℕ} 0 1 = cc (room-short i s) in absurd (omega arith)
+
+-- ---- the index
+
+-- "an index buffer that has its places"
+abbrev pub HasIndex : Problem → Buffers → Type 0
+HasIndex p b = indexPlaces (length (objectives p)) ≤ length (b .index)
+
+module _ (p : Problem) (b : Buffers) where
+  pub index-short : length (b .index) < indexPlaces (length (objectives p)) → indexRefusal p (length (b .index)) ≡ Refused 28 0
+  unfolding indexRefusal refuse
+  index-short h = rw (lt-ltb (length (b .index)) (indexPlaces (length (objectives p))) h)
+
+  pub index-passes : (indexRefusal p (length (b .index)) ≡ Accepted) ↔ HasIndex p b
+  unfolding indexRefusal
+  index-passes =
+      let t = refuse-passes 28 0 (ltb (length (b .index)) (indexPlaces (length (objectives p)))) in
+      (λ e. ltb-false (length (b .index)) (indexPlaces (length (objectives p))) (t .0 e), λ h. t .1 (le-ltb (length (b .index)) (indexPlaces (length (objectives p))) h))

@@ -7,14 +7,16 @@ use lib.Ieee.{nan}
 use lib.ListN.{length, getD, take, drop, length-append, length-drop, length-map, List·getD-map}
 use lib.Seq.{take-at, drop-at, getD-take}
 use Rattle.model.specs.Lists.{total}
-use Rattle.model.specs.Problem.{Problem}
+use Rattle.model.specs.Problem.{Problem, objectives}
 use Rattle.model.specs.Program.{Entry}
 use Rattle.model.specs.Assembled.{entries, rowNumbers, columnNumbers, values, rightSide, coneKinds, coneDimensions, cost}
 use Rattle.model.specs.Counts.{counts}
+use Rattle.model.specs.Owners.{index, indexPlaces}
 use Rattle.model.specs.Answers.{Buffers, onto, written}
 use Rattle.model.specs.declared.FourCounts.{FourCounts}
 use Rattle.model.proofs.InCone.{OneCone}
-use Rattle.model.proofs.Room.{Enough}
+use Rattle.model.proofs.Room.{Enough, HasIndex}
+use Rattle.model.proofs.Owned.{index-length}
 use Rattle.model.proofs.Program.{Program}
 
 module _ {A : Type 0} where
@@ -36,7 +38,7 @@ module _ {A : Type 0} where
   onto-at : (c : ℕ) (list old new : List A) → Onto c list old new → (i : ℕ) (d : A) → i < c → getD new i d ≡ getD list i d
   onto-at c list old new o i d lt = sym (getD-take c new i d lt) ∙ ap (λ (l : List A). getD l i d) (o .first)
 
--- buffers 0 to 6
+-- buffers 0 to 6, and the index
 pub record Writes (p : Problem) (old new : Buffers) : Type 0 where
   pub rows : Onto (counts p .entries) (rowNumbers p) (old .rows) (new .rows)
   pub columns : Onto (counts p .entries) (columnNumbers p) (old .columns) (new .columns)
@@ -45,6 +47,7 @@ pub record Writes (p : Problem) (old new : Buffers) : Type 0 where
   pub kinds : Onto (counts p .cones) (coneKinds p) (old .kinds) (new .kinds)
   pub dimensions : Onto (counts p .cones) (coneDimensions p) (old .dimensions) (new .dimensions)
   pub cost : Onto (counts p .columns) (cost p) (old .cost) (new .cost)
+  pub index : Onto (indexPlaces (length (objectives p))) (index p) (old .index) (new .index)
 
 -- Entry i is what buffers 0 to 2 hold at index i, and its position is its row with its column
 pub record Formed (t : FourCounts) (b : Buffers) : Type 0 where
@@ -54,9 +57,9 @@ pub record Formed (t : FourCounts) (b : Buffers) : Type 0 where
   pub one-cone : (r : ℕ) → r < t .rows → OneCone (take (t .cones) (b .dimensions)) r
 
 module _ (p : Problem) (f : Program p) where
-  pub writes : (b : Buffers) → Enough (counts p) b → Writes p b (written p b)
+  pub writes : (b : Buffers) → HasIndex p b → Enough (counts p) b → Writes p b (written p b)
   unfolding written rowNumbers columnNumbers values coneKinds coneDimensions
-  writes b h =
+  writes b i h =
       record {
         rows = onto-holds (counts p .entries) _ (b .rows) (simp length-map (f .entries-counted)) (h 0 (omega arith));
         columns = onto-holds (counts p .entries) _ (b .columns) (simp length-map (f .entries-counted)) (h 1 (omega arith));
@@ -65,6 +68,7 @@ module _ (p : Problem) (f : Program p) where
         kinds = onto-holds (counts p .cones) _ (b .kinds) (simp length-map (f .cones-counted)) (h 4 (omega arith));
         dimensions = onto-holds (counts p .cones) _ (b .dimensions) (simp length-map (f .cones-counted)) (h 5 (omega arith));
         cost = onto-holds (counts p .columns) _ (b .cost) (f .columns-counted) (h 6 (omega arith));
+        index = onto-holds (indexPlaces (length (objectives p))) _ (b .index) (index-length p) i;
       }
 
   module _ (old new : Buffers) (w : Writes p old new) where

@@ -1,10 +1,11 @@
--- What sizing and the assembly answer, and what the seven buffers then hold.
+-- What sizing and the assembly answer, and what the eight buffers then hold.
 use Rattle.model.specs.Base.{ℕ, Bool, not, _&&_, List, [], _∷_, _++_, length, getD, drop, ltb, Float, Verdict, Accepted, Refused, Answer, Refusal, Counts, FourCounts}
-use Rattle.model.specs.Problem.{Problem}
+use Rattle.model.specs.Problem.{Problem, objectives}
 use Rattle.model.specs.Verdicts.{_then_, refuse}
 use Rattle.model.specs.Refusals.{refusal}
 use Rattle.model.specs.Assembled.{rowNumbers, columnNumbers, values, rightSide, coneKinds, coneDimensions, cost, allFinite}
 use Rattle.model.specs.Counts.{counts}
+use Rattle.model.specs.Owners.{index, indexPlaces}
 
 -- "When an answer is an enum, a definition sets out this paper's number and values for each of its cases":
 -- a refusal's number and its place, or 0 and the four counts.
@@ -24,7 +25,7 @@ outcome (Refused r k) t = record { number = r; values = k ∷ [] }
 unfoldable pub sizing : Problem → Told
 sizing p = outcome (refusal p) (counts p)
 
--- buffers 0 to 6
+-- buffers 0 to 6, and the index
 pub record Buffers : Type 0 where
   pub rows : List ℕ
   pub columns : List ℕ
@@ -33,7 +34,9 @@ pub record Buffers : Type 0 where
   pub kinds : List ℕ
   pub dimensions : List ℕ
   pub cost : List Float
+  pub index : List ℕ
 
+-- of buffers 0 to 6
 abbrev pub lengths : Buffers → List ℕ
 lengths b =
     length (b .rows)
@@ -59,6 +62,10 @@ roomRefusal t have =
     short : ℕ → ℕ → Bool
     short i need = ltb (getD have i 0) need
 
+-- 28: "An index buffer too short, by one place or more"
+unfoldable pub indexRefusal : Problem → ℕ → Verdict
+indexRefusal p have = refuse 28 0 (ltb have (indexPlaces (length (objectives p))))
+
 -- 20: "a number to be written to values, right side or cost is not finite"
 abbrev pub everyFinite : Problem → Bool
 everyFinite p = allFinite (values p) && allFinite (rightSide p) && allFinite (cost p)
@@ -80,6 +87,7 @@ written p b =
       kinds = onto (coneKinds p) (b .kinds);
       dimensions = onto (coneDimensions p) (b .dimensions);
       cost = onto (cost p) (b .cost);
+      index = onto (index p) (b .index);
     }
 
 -- the answer, and the buffers after it
@@ -92,9 +100,9 @@ unfoldable pub result : Verdict → Problem → Buffers → Result
 result Accepted p b = record { told = outcome Accepted (counts p); buffers = written p b }
 result (Refused r k) p b = record { told = outcome (Refused r k) (counts p); buffers = b }
 
--- checks go in rising number: 1 to 18, then 19 for buffers of these lengths, then 20
-abbrev pub verdictOf : Problem → List ℕ → Verdict
-verdictOf p have = refusal p then roomRefusal (counts p) have then finiteRefusal p
+-- checks go in rising number: 1 to 18, then 19 for buffers of these lengths, then 20; 28, for an index of this length, is "directly after 19"
+abbrev pub verdictOf : Problem → List ℕ → ℕ → Verdict
+verdictOf p have long = refusal p then roomRefusal (counts p) have then indexRefusal p long then finiteRefusal p
 
 unfoldable pub assembly : Problem → Buffers → Result
-assembly p b = result (verdictOf p (lengths b)) p b
+assembly p b = result (verdictOf p (lengths b) (length (b .index))) p b

@@ -19,3 +19,5 @@ pub use Rattle.model.specs.declared.Verdict.the-variants.{Accepted, Refu
 pub use Rattle.model.specs.declared.Answer.{Answer}
 pub use Rattle.model.specs.declared.Answer.the-variants.{Refusal, Counts}
 pub use Rattle.model.specs.declared.FourCounts.{FourCounts}
+pub use Rattle.model.specs.declared.OwnerAnswer.{OwnerAnswer}
+pub use Rattle.model.specs.declared.OwnerAnswer.the-variants.{StandardRows, RootStage, ObjectiveNumber, IndexTooShort, NotCovered}

@@ -9,7 +9,10 @@ pub mod Standard
 pub mod Objectives
 pub mod Assembled
 pub mod Counts
+pub mod Owners
 pub mod Answers
+pub mod OwnerAnswers
+pub mod Reweighed
 pub mod Conic
 pub mod Meaning
 pub mod Ledger

@@ -71,12 +71,13 @@ pub struct Term {
     pub v: f64,
 }
 
-// The running tally: entries, rows, cones and columns written so far.
+// The running tally: entries, rows, cones and columns written so far, and the owner being written (its place in the order of the index).
 pub struct Tally {
     pub entries: usize,
     pub rows: usize,
     pub cones: usize,
     pub columns: usize,
+    pub owner: usize,
 }
 
 // The four counts that sizing answers.
@@ -105,4 +106,13 @@ pub enum Answer {
         cones: usize,
         columns: usize,
     },
+}
+
+// Who owns a row or a column, in the order of the index; or refusal 28 or 29.
+pub enum OwnerAnswer {
+    StandardRows,
+    RootStage,
+    ObjectiveNumber(usize),
+    IndexTooShort,
+    NotCovered,
 }

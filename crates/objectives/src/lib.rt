@@ -10,8 +10,9 @@ ghost use Rattle.model.specs.declared.Objective.the-variants.{Time};
 ghost use Rattle.model.specs.Assembled.{objectiveBlocks};
 ghost use Rattle.buffers.specs.Lent.{RoomAll, built};
 ghost use Rattle.buffers.specs.Inputs.{path, Sized, torqueOf};
-ghost use Rattle.objectives.specs.Blocks.{together};
 ghost use Rattle.objectives.specs.Input.{lends, Ready, AllReady};
+ghost use Rattle.objectives.specs.Owned.{builtOwners};
+use buffers::put_owner;
 use model::Ends;
 use model::Objective;
 use model::Tally;
@@ -90,7 +91,7 @@ fn objective_at(
     objective(t, r, c, v, h, k, m, q, s, e, y, ta, tb, tg, d, pool, o)
 }
 
-// All that count.
+// All that count, each an owner of its own in the index.
 pub fn clarabel_objective_copp3(
     t: Tally,
     rows: &mut [u32],
@@ -110,13 +111,14 @@ pub fn clarabel_objective_copp3(
     pool: &[f64],
     os: [Objective; 16],
     count: usize,
+    index: &mut [usize],
 ) -> Tally
-    requires { ⌜ RoomAll t 4197376 × Sized (now s) e × (count ≤ 16) × AllReady (lends (path (now s) e) (now y) (torqueOf d (now ta) (now tb) (now tg)) (now pool)) os count ⌝ }
-    ensures { λ r. ⌜ built t rows cols vals right kinds dims cost r (together (objectiveBlocks (lends (path (now (s .entry)) e) (now (y .entry)) (torqueOf d (now (ta .entry)) (now (tb .entry)) (now (tg .entry))) (now (pool .entry))) (t .columns) (take count os))) 4197376 ⌝ }
+    requires { ⌜ RoomAll t 4197376 × (t .owner < 2 ^ 32) × Sized (now s) e × (count ≤ 16) × AllReady (lends (path (now s) e) (now y) (torqueOf d (now ta) (now tb) (now tg)) (now pool)) os count ⌝ }
+    ensures { λ r. ⌜ builtOwners t rows cols vals right kinds dims cost index r (objectiveBlocks (lends (path (now (s .entry)) e) (now (y .entry)) (torqueOf d (now (ta .entry)) (now (tb .entry)) (now (tg .entry))) (now (pool .entry))) (t .columns) (take count os)) 4197376 ⌝ }
 {
     let mut u = t;
     for i in 0..count {
-        u = objective_at(
+        let w = objective_at(
             u,
             rows,
             cols,
@@ -136,6 +138,7 @@ pub fn clarabel_objective_copp3(
             os,
             i,
         );
+        u = put_owner(u, w, index);
     }
     u
 }

@@ -5,10 +5,10 @@ ghost use Rattle.model.specs.Problem.{problem};
 ghost use Rattle.model.specs.Refusals.{refusal};
 ghost use Rattle.model.specs.Answers.{everyFinite};
 ghost use Rattle.model.specs.declared.Verdict.the-variants.{Accepted};
-ghost use Rattle.buffers.specs.Lent.{built};
-ghost use Rattle.passes.specs.Program.{whole, start};
+ghost use Rattle.passes.specs.Program.{startAt, complete};
 use blocks::objective_blocks;
 use blocks::standard_block;
+use buffers::put_owner;
 use finite_standard::standard_rows;
 use model::Job;
 use model::Objective;
@@ -53,7 +53,20 @@ pub fn every_number(
     both(one, both(two, three))
 }
 
-// Both halves, from nothing. The buffers have the letters of crate buffers' `built`. A store past a buffer's end is left out.
+// The tally before the standard rows, when the cost of so many columns is written.
+fn before_rows(columns: usize) -> Tally
+    ensures { λ t. ⌜ t ≡ startAt columns ⌝ }
+{
+    Tally {
+        entries: 0,
+        rows: 0,
+        cones: 0,
+        columns,
+        owner: 0,
+    }
+}
+
+// Both halves, from nothing, and the index. The buffers have the letters of crate buffers' `built`. A store past a buffer's end is left out.
 // 8388608 is more than the halves' bounds together, for at most 4097 stations.
 pub fn write(
     job: Job,
@@ -83,19 +96,20 @@ pub fn write(
     k: &mut [u8],
     m: &mut [u32],
     q: &mut [f64],
+    x: &mut [usize],
 ) -> Tally
     requires { ⌜ refusal (problem job os (now s) (now ca) (now cj) (now amax) (now aa) (now ab) (now ah) (now ja) (now jb) (now jc) (now jh) (now y) (now ta) (now tb) (now tg) (now r0) (now r1) (now pool)) ≡ Accepted ⌝ }
-    ensures { λ t. ⌜ built start r c v h k m q t (whole (problem job os (now (s .entry)) (now (ca .entry)) (now (cj .entry)) (now (amax .entry)) (now (aa .entry)) (now (ab .entry)) (now (ah .entry)) (now (ja .entry)) (now (jb .entry)) (now (jc .entry)) (now (jh .entry)) (now (y .entry)) (now (ta .entry)) (now (tb .entry)) (now (tg .entry)) (now (r0 .entry)) (now (r1 .entry)) (now (pool .entry)))) 8388608 ⌝ }
+    ensures { λ t. ⌜ complete (startAt 0) r c v h k m q x t (problem job os (now (s .entry)) (now (ca .entry)) (now (cj .entry)) (now (amax .entry)) (now (aa .entry)) (now (ab .entry)) (now (ah .entry)) (now (ja .entry)) (now (jb .entry)) (now (jc .entry)) (now (jh .entry)) (now (y .entry)) (now (ta .entry)) (now (tb .entry)) (now (tg .entry)) (now (r0 .entry)) (now (r1 .entry)) (now (pool .entry))) 8388608 ⌝ }
 {
-    let t = Tally {
+    let begin = Tally {
         entries: 0,
         rows: 0,
         cones: 0,
         columns: 0,
+        owner: 0,
     };
-    let e = job.ends;
     let t = standard_block(
-        t,
+        begin,
         r,
         c,
         v,
@@ -120,7 +134,7 @@ pub fn write(
         r1,
         pool,
     );
-    let d = job.d;
-    let n = job.count;
-    objective_blocks(t, r, c, v, h, k, m, q, s, e, y, ta, tb, tg, d, pool, os, n)
+    // the column tally of the index starts behind the a and b columns
+    let t = put_owner(before_rows(t.columns), t, x);
+    objective_blocks(t, r, c, v, h, k, m, q, job, os, s, y, ta, tb, tg, pool, x)
 }

@@ -41,7 +41,11 @@ FloatsHold s at n l = (i : ℕ) → i < 128 → toBits binary64 (getD l i nan) �
 abbrev pub BytesHold : List ℕ → ℕ → ℕ → List ℕ → Type 0
 BytesHold s at n l = (i : ℕ) → i < 128 → getD l i 0 ≡ expectedByte s at n i
 
--- Where the file has what the buffers hold: rows, columns and values of e entries, r right sides, kinds and dimensions of c cones, cost.
+-- the index has 160, since sixteen objectives need 144
+abbrev pub IndexHolds : List ℕ → ℕ → ℕ → List ℕ → Type 0
+IndexHolds s at n l = (i : ℕ) → i < 160 → getD l i 0 ≡ expectedBits s at n i
+
+-- Where the file has what the buffers hold: rows, columns and values of e entries, r right sides, kinds and dimensions of c cones, cost of k columns, the index.
 abbrev pub columnsPlace : ℕ → ℕ → ℕ
 columnsPlace at e = placeAfter at e 4
 
@@ -60,16 +64,20 @@ dimensionsPlace at e r c = placeAfter (kindsPlace at e r) c 1
 abbrev pub costPlace : ℕ → ℕ → ℕ → ℕ → ℕ
 costPlace at e r c = placeAfter (dimensionsPlace at e r c) c 4
 
-pub record HeldPlaces (at e r c columns values right kinds dimensions cost : ℕ) : Type 0 where
+abbrev pub indexPlace : ℕ → ℕ → ℕ → ℕ → ℕ → ℕ
+indexPlace at e r c k = placeAfter (costPlace at e r c) k 8
+
+pub record HeldPlaces (at e r c k columns values right kinds dimensions cost index : ℕ) : Type 0 where
   pub columns-at : columns ≡ columnsPlace at e
   pub values-at : values ≡ valuesPlace at e
   pub right-at : right ≡ rightPlace at e
   pub kinds-at : kinds ≡ kindsPlace at e r
   pub dimensions-at : dimensions ≡ dimensionsPlace at e r c
   pub cost-at : cost ≡ costPlace at e r c
+  pub index-at : index ≡ indexPlace at e r c k
 
--- All seven buffers hold what the file says, for e entries, r rows, c cones and k columns.
-pub record BuffersHold (s : List ℕ) (at e r c k : ℕ) (rows columns : List ℕ) (values right : List Float) (kinds dimensions : List ℕ) (cost : List Float) : Type 0 where
+-- All eight buffers hold what the file says, for e entries, r rows, c cones, k columns and x places of the index.
+pub record BuffersHold (s : List ℕ) (at e r c k x : ℕ) (rows columns : List ℕ) (values right : List Float) (kinds dimensions : List ℕ) (cost : List Float) (index : List ℕ) : Type 0 where
   pub in-rows : NumbersHold s at e rows
   pub in-columns : NumbersHold s (columnsPlace at e) e columns
   pub in-values : FloatsHold s (valuesPlace at e) e values
@@ -77,3 +85,4 @@ pub record BuffersHold (s : List ℕ) (at e r c k : ℕ) (rows columns : List �
   pub in-kinds : BytesHold s (kindsPlace at e r) c kinds
   pub in-dimensions : NumbersHold s (dimensionsPlace at e r c) c dimensions
   pub in-cost : FloatsHold s (costPlace at e r c) k cost
+  pub in-index : IndexHolds s (indexPlace at e r c k) x index

@@ -5,9 +5,11 @@ ghost use Prim.Native.Nat.{_≤_};
 ghost use Rattle.replay_list.specs.File.{HeldPlaces, BuffersHold};
 use crate::compare::BYTE;
 use crate::compare::FLOAT;
+use crate::compare::LONG;
 use crate::compare::NUMBER;
 use crate::compare::bytes_agree;
 use crate::compare::floats_agree;
+use crate::compare::index_agrees;
 use crate::compare::numbers_agree;
 use crate::file::byte_at;
 use crate::file::past;
@@ -36,6 +38,7 @@ struct Held {
     kinds: usize,
     dimensions: usize,
     cost: usize,
+    index: usize,
     end: usize,
 }
 
@@ -86,8 +89,16 @@ fn same_answer(a: AnswerRecord, b: AnswerRecord) -> bool
     refusal & entries & (a.cones == b.cones) & (a.columns == b.columns)
 }
 
-fn held_at(at: usize, counts: AnswerRecord) -> Held
-    ensures { λ h. ⌜ HeldPlaces at (counts .entries) (counts .rows) (counts .cones) (h .columns) (h .values) (h .right) (h .kinds) (h .dimensions) (h .cost) ⌝ }
+// How many places of the index are written: eight for each objective and for the two owners before them.
+fn index_written(count: usize, answer: AnswerRecord) -> usize {
+    if answer.number == 0 {
+        return past(16, count, 8);
+    }
+    0
+}
+
+fn held_at(at: usize, counts: AnswerRecord, written: usize) -> Held
+    ensures { λ h. ⌜ HeldPlaces at (counts .entries) (counts .rows) (counts .cones) (counts .columns) (h .columns) (h .values) (h .right) (h .kinds) (h .dimensions) (h .cost) (h .index) ⌝ }
 {
     let columns = past(at, counts.entries, 4);
     let values = past(columns, counts.entries, 4);
@@ -95,7 +106,8 @@ fn held_at(at: usize, counts: AnswerRecord) -> Held
     let kinds = past(right, counts.rows, 8);
     let dimensions = past(kinds, counts.cones, 1);
     let cost = past(dimensions, counts.cones, 4);
-    let end = past(cost, counts.columns, 8);
+    let index = past(cost, counts.columns, 8);
+    let end = past(index, written, 8);
     Held {
         columns,
         values,
@@ -103,6 +115,7 @@ fn held_at(at: usize, counts: AnswerRecord) -> Held
         kinds,
         dimensions,
         cost,
+        index,
         end,
     }
 }
@@ -111,6 +124,7 @@ fn buffers_agree(
     s: &[u8],
     at: usize,
     counts: AnswerRecord,
+    written: usize,
     rows: &[u32; 128],
     columns: &[u32; 128],
     values: &[f64; 128],
@@ -118,10 +132,11 @@ fn buffers_agree(
     kinds: &[u8; 128],
     dimensions: &[u32; 128],
     cost: &[f64; 128],
+    index: &[usize; 160],
 ) -> bool
-    ensures { λ t. ⌜ (t ≡ true → BuffersHold (now (s .entry)) at (counts .entries) (counts .rows) (counts .cones) (counts .columns) (now (rows .entry)) (now (columns .entry)) (now (values .entry)) (now (right .entry)) (now (kinds .entry)) (now (dimensions .entry)) (now (cost .entry))) ⌝ }
+    ensures { λ t. ⌜ (t ≡ true → BuffersHold (now (s .entry)) at (counts .entries) (counts .rows) (counts .cones) (counts .columns) written (now (rows .entry)) (now (columns .entry)) (now (values .entry)) (now (right .entry)) (now (kinds .entry)) (now (dimensions .entry)) (now (cost .entry)) (now (index .entry))) ⌝ }
 {
-    let held = held_at(at, counts);
+    let held = held_at(at, counts, written);
     let entries = numbers_agree(s, at, counts.entries, rows)
         & numbers_agree(s, held.columns, counts.entries, columns)
         & floats_agree(s, held.values, counts.entries, values);
@@ -131,6 +146,7 @@ fn buffers_agree(
         & cones
         & floats_agree(s, held.right, counts.rows, right)
         & floats_agree(s, held.cost, counts.columns, cost)
+        & index_agrees(s, held.index, written, index)
 }
 
 // The length of buffer k that is lent, of the 128 places that there are.
@@ -139,6 +155,14 @@ fn lent_at(s: &[u8], places: Places, k: usize) -> usize
 {
     let n = item(s, places.lengths, k);
     if 128 < n { 128 } else { n }
+}
+
+// The length of the index, of its 160 places.
+fn index_lent(s: &[u8], places: Places) -> usize
+    ensures { λ r. ⌜ r ≤ 160 ⌝ }
+{
+    let n = item(s, places.lengths, 7);
+    if 160 < n { 160 } else { n }
 }
 
 fn assembly_agrees(
@@ -157,6 +181,7 @@ fn assembly_agrees(
     let mut kinds = [BYTE; 128];
     let mut dimensions = [NUMBER; 128];
     let mut cost = [FLOAT; 128];
+    let mut index = [LONG; 160];
     let answer = lent::assemble(
         job,
         records,
@@ -171,15 +196,13 @@ fn assembly_agrees(
         &mut kinds[..lent_at(s, places, 4)],
         &mut dimensions[..lent_at(s, places, 5)],
         &mut cost[..lent_at(s, places, 6)],
+        &mut index[..index_lent(s, places)],
     );
-    let expected = assembly_at(s, places.answers);
-    if !same_answer(answer, expected) {
-        return false;
-    }
-    buffers_agree(
+    let held = buffers_agree(
         s,
         places.held,
-        expected,
+        answer,
+        index_written(job.count, answer),
         &rows,
         &columns,
         &values,
@@ -187,7 +210,9 @@ fn assembly_agrees(
         &kinds,
         &dimensions,
         &cost,
-    )
+        &index,
+    );
+    held & same_answer(answer, assembly_at(s, places.answers))
 }
 
 fn fits_at(s: &[u8], at: usize, i: usize) -> bool {
@@ -198,7 +223,11 @@ fn fits_at(s: &[u8], at: usize, i: usize) -> bool {
 fn buffers_fit(s: &[u8], lengths: usize, answers: usize) -> bool {
     let entries = fits_at(s, lengths, 0) & fits_at(s, lengths, 1) & fits_at(s, lengths, 2);
     let cones = fits_at(s, lengths, 4) & fits_at(s, lengths, 5);
-    let lent = entries & fits_at(s, lengths, 3) & cones & fits_at(s, lengths, 6);
+    let lent = entries
+        & fits_at(s, lengths, 3)
+        & cones
+        & fits_at(s, lengths, 6)
+        & (item(s, lengths, 7) <= 160);
     let wide = fits_at(s, answers, 2) & fits_at(s, answers, 3);
     lent & wide & fits_at(s, answers, 4) & fits_at(s, answers, 5)
 }
@@ -228,7 +257,9 @@ pub fn replay_case(s: &[u8], at: usize) -> Replayed {
     let group = byte_at(s, at);
     let starts = input::starts_at(s, at);
     let places = input::places_at(s, at, &starts);
-    let held = held_at(places.held, assembly_at(s, places.answers));
+    let answer = assembly_at(s, places.answers);
+    let written = index_written(input::count_at(s, at, 3), answer);
+    let held = held_at(places.held, answer, written);
     let next = held.end;
     if s.len() < next {
         return Replayed {

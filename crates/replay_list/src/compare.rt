@@ -1,9 +1,9 @@
-// Compares the seven buffers with the file, bit for bit: at the places that were written with the
+// Compares the eight buffers with the file, bit for bit: at the places that were written with the
 // file's numbers, and at all later places with what the buffers held before the call.
 ghost use mathlib.Core.Path.{_≡_};
 ghost use mathlib.Core.Bool.{true};
 ghost use lib.Ieee.{binary64, toBits, nan};
-ghost use Rattle.replay_list.specs.File.{expectedNumber, expectedBits, expectedByte, NumbersHold, FloatsHold, BytesHold};
+ghost use Rattle.replay_list.specs.File.{expectedNumber, expectedBits, expectedByte, NumbersHold, FloatsHold, BytesHold, IndexHolds};
 use crate::file::byte_at;
 use crate::file::long_at;
 use crate::file::past;
@@ -17,6 +17,8 @@ pub const FLOAT: f64 = -1234.5;
 pub const BITS: u64 = 13876516240719085568;
 
 pub const BYTE: u8 = 165;
+
+pub const LONG: usize = 13876516240719085568;
 
 // Whether x is no NaN and has these bits.
 fn has_bits(x: f64, bits: u64) -> bool
@@ -90,6 +92,25 @@ pub fn bytes_agree(s: &[u8], at: usize, n: usize, found: &[u8; 128]) -> bool
     let mut i: usize = 0;
     while i < 128 {
         if found[i] != expected_byte(s, at, n, i) {
+            return false;
+        }
+        i += 1;
+    }
+    true
+}
+
+fn wide(x: usize) -> u64
+    ensures { λ r. ⌜ r ≡ x ⌝ }
+{
+    x as u64
+}
+
+pub fn index_agrees(s: &[u8], at: usize, n: usize, found: &[usize; 160]) -> bool
+    ensures { λ r. ⌜ (r ≡ true → IndexHolds (now (s .entry)) at n (now (found .entry))) ⌝ }
+{
+    let mut i: usize = 0;
+    while i < 160 {
+        if wide(found[i]) != expected_bits(s, at, n, i) {
             return false;
         }
         i += 1;

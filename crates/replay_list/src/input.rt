@@ -37,7 +37,7 @@ pub fn size_of(n: u32) -> usize {
     n as usize
 }
 
-fn count_at(s: &[u8], at: usize, i: usize) -> usize {
+pub fn count_at(s: &[u8], at: usize, i: usize) -> usize {
     whole(long_at(s, past(past(at, 1, 1), i, 8)))
 }
 
@@ -110,7 +110,7 @@ pub fn places_at(s: &[u8], at: usize, starts: &[usize; 19]) -> Places {
     let tables = past(grid, end, 4);
     let records = past(tables, starts[18], 8);
     let lengths = past(records, length_at(s, at, 18), 41);
-    let answers = past(lengths, 28, 1);
+    let answers = past(lengths, 32, 1);
     let held = past(answers, 32, 1);
     Places {
         grid,

@@ -27,7 +27,13 @@ pub const LINES: [Line; 9] = [
     },
     Line {
         name: "reference, growing vectors, with all refusals",
-        job: |sides| keep(reference::assemble(&sides.lent, &[usize::MAX; 7])),
+        job: |sides| {
+            keep(reference::assemble(
+                &sides.lent,
+                &[usize::MAX; 7],
+                usize::MAX,
+            ));
+        },
     },
     Line {
         name: "library, buffers reused, not cleared",
@@ -86,6 +92,7 @@ fn clear(out: &mut Assembly) {
     out.kinds.fill(0);
     out.dimensions.fill(0);
     out.cost.fill(0.0);
+    out.index.fill(0);
 }
 
 fn copy(from: &Assembly, to: &mut Assembly) {
@@ -96,4 +103,5 @@ fn copy(from: &Assembly, to: &mut Assembly) {
     to.kinds.copy_from_slice(&from.kinds);
     to.dimensions.copy_from_slice(&from.dimensions);
     to.cost.copy_from_slice(&from.cost);
+    to.index.copy_from_slice(&from.index);
 }

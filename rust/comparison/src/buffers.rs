@@ -4,12 +4,15 @@
 
 use crate::rng::Rng;
 use copp3_assembly::Buffers;
-use reference::{Assembled, Counts};
+use reference::Assembled;
 
 /// Places before and behind each lent buffer.
 const MARGIN: usize = 3;
 
-/// The seven vectors; the lent part of each leaves out the margins.
+/// Lengths of the buffers, in the order of refusal 19, and of the index.
+pub type Lengths = [usize; 8];
+
+/// The vectors; the lent part of each leaves out the margins.
 #[derive(Clone)]
 pub struct Output {
     rows: Vec<u32>,
@@ -19,17 +22,16 @@ pub struct Output {
     kinds: Vec<u8>,
     dimensions: Vec<u32>,
     cost: Vec<f64>,
+    index: Vec<u64>,
 }
 
-/// What a buffer of each length needs, in the order of refusal 19.
-pub fn needed(counts: Counts) -> [usize; 7] {
-    let Counts {
-        entries,
-        rows,
-        cones,
-        columns,
-    } = counts;
-    [entries, entries, entries, rows, cones, cones, columns]
+/// The lengths that the assembled vectors need.
+pub fn needed(assembled: &Assembled) -> Lengths {
+    let [entries, rows, cones, columns] = assembled.counts().numbers();
+    let index = assembled.index.len();
+    [
+        entries, entries, entries, rows, cones, cones, columns, index,
+    ]
 }
 
 fn random<T>(rng: &mut Rng, len: usize, from: impl Fn(u64) -> T) -> Vec<T> {
@@ -54,7 +56,7 @@ fn differ<T: Copy, B: PartialEq>(a: &[T], b: &[T], bits: impl Fn(T) -> B) -> Opt
 }
 
 impl Output {
-    pub fn random(rng: &mut Rng, lengths: &[usize; 7]) -> Self {
+    pub fn random(rng: &mut Rng, lengths: &Lengths) -> Self {
         Self {
             rows: random(rng, lengths[0], |bits| bits as u32),
             columns: random(rng, lengths[1], |bits| bits as u32),
@@ -63,6 +65,7 @@ impl Output {
             kinds: random(rng, lengths[4], |bits| bits as u8),
             dimensions: random(rng, lengths[5], |bits| bits as u32),
             cost: random(rng, lengths[6], f64::from_bits),
+            index: random(rng, lengths[7], |bits| bits),
         }
     }
 
@@ -75,7 +78,13 @@ impl Output {
             kinds: lent(&mut self.kinds),
             dimensions: lent(&mut self.dimensions),
             cost: lent(&mut self.cost),
+            index: lent(&mut self.index),
         }
+    }
+
+    /// The index as it was lent.
+    pub fn index(&self) -> &[u64] {
+        &self.index[MARGIN..self.index.len() - MARGIN]
     }
 
     /// What an accepted problem leaves: its numbers from index 0, and nothing else changed.
@@ -87,6 +96,7 @@ impl Output {
         put(&mut self.kinds, &assembled.cones.kinds);
         put(&mut self.dimensions, &assembled.cones.dims);
         put(&mut self.cost, &assembled.q_object);
+        put(&mut self.index, &assembled.index);
     }
 
     /// Compares every byte; an error names the first buffer and index that differ.
@@ -99,6 +109,7 @@ impl Output {
             differ(&self.kinds, &expected.kinds, |x| x),
             differ(&self.dimensions, &expected.dimensions, |x| x),
             differ(&self.cost, &expected.cost, f64::to_bits),
+            differ(&self.index, &expected.index, |x| x),
         ];
         match found.iter().position(Option::is_some) {
             None => Ok(()),

@@ -4,7 +4,7 @@ use crate::case::Case;
 use crate::rng::Rng;
 use reference::{Objective, Part};
 
-/// The refusals that a fault can be aimed at; 19 is a matter of buffers.
+/// The refusals that a fault can be aimed at; 19 and 28 are a matter of buffers.
 pub const AIMS: [u64; 20] = [
     1, 2, 3, 4, 5, 6, 7, 8, 9, 10, 11, 12, 13, 14, 15, 16, 17, 18, 20, 40,
 ];

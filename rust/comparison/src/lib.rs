@@ -4,14 +4,16 @@ pub mod buffers;
 pub mod case;
 pub mod damage;
 pub mod one_number;
+pub mod owners;
 pub mod tally;
 
 pub use problems::{generate, rng};
 
-use buffers::{Output, needed};
+use buffers::{Lengths, Output, needed};
 use case::Case;
 use copp3_assembly::raw::{self, Answer, Records};
 use reference::counts::check_facts;
+use reference::owners::Asked;
 use reference::{Assembled, Counts, Refusal, refusals};
 use rng::Rng;
 use tally::Tally;
@@ -46,7 +48,7 @@ pub fn run(seed: u64, first: u64, count: u64, tally: &mut Tally) -> Check {
     Ok(())
 }
 
-/// Compares sizing and one or several assemblies of a problem.
+/// Compares sizing, one or several assemblies of a problem, and the owners of damaged indexes.
 pub fn check(case: &Case, rng: &mut Rng, tally: &mut Tally) -> Check {
     let judged = case.judge();
     let records = case.records(rng);
@@ -57,17 +59,17 @@ pub fn check(case: &Case, rng: &mut Rng, tally: &mut Tally) -> Check {
     if let Ok(assembled) = &judged {
         check_facts(&case.sample.problem(), assembled)?;
     }
-    let lengths = choose_lengths(rng, expected);
+    let lengths = choose_lengths(rng, &judged);
     assembly(case, &judged, &records, &lengths, rng, tally)?;
-    if let Ok(counts) = expected
+    if let Ok(assembled) = &judged
         && rng.chance(12)
     {
-        every_length(case, &judged, &records, needed(counts), rng, tally)?;
+        every_length(case, &judged, &records, needed(assembled), rng, tally)?;
     }
     if rng.chance(12) {
         ordinary(case, &judged)?;
     }
-    Ok(())
+    owners::of_any_index(judged.as_ref().ok(), rng, tally)
 }
 
 /// One assembly with buffers of these lengths: answer, numbers, and all bytes.
@@ -75,11 +77,11 @@ pub fn assembly(
     case: &Case,
     judged: &Result<Assembled, Refusal>,
     records: &Records,
-    lengths: &[usize; 7],
+    lengths: &Lengths,
     rng: &mut Rng,
     tally: &mut Tally,
 ) -> Check {
-    let expected = judge_buffers(judged, lengths);
+    let expected = judge_buffers(case, judged, lengths);
     let mut output = Output::random(rng, lengths);
     let mut after = output.clone();
     let answer = raw::assemble(case.job(), *records, &case.tables(), &mut output.buffers());
@@ -89,18 +91,38 @@ pub fn assembly(
     }
     output.same(&after)?;
     tally.count(expected.err().map_or(0, |refusal| refusal.number));
-    Ok(())
+    if let Ok(assembled) = judged {
+        tally.count_faults(faults(case, assembled, lengths).map(|fault| fault.is_err()));
+    }
+    match expected {
+        Ok(assembled) => {
+            owners::of_written(output.index(), case.sample.count, assembled, rng, tally)
+        }
+        Err(_) => Ok(()),
+    }
 }
 
-/// Refusals 19 and 20 over what was judged before.
+/// Refusals 19, 28 and 20 over what was judged before.
 fn judge_buffers<'a>(
+    case: &Case,
     judged: &'a Result<Assembled, Refusal>,
-    lengths: &[usize; 7],
+    lengths: &Lengths,
 ) -> Result<&'a Assembled, Refusal> {
     let assembled = judged.as_ref().map_err(|refusal| *refusal)?;
-    refusals::short_buffer(assembled.counts(), lengths)?;
-    refusals::not_finite(assembled)?;
-    Ok(assembled)
+    let first = faults(case, assembled, lengths)
+        .into_iter()
+        .find_map(Result::err);
+    first.map_or(Ok(assembled), Err)
+}
+
+/// Refusals 19, 28 and 20, each for itself, in the order in which they are tested.
+fn faults(case: &Case, assembled: &Assembled, lengths: &Lengths) -> [Result<(), Refusal>; 3] {
+    let [seven @ .., index] = lengths;
+    [
+        refusals::short_buffer(assembled.counts(), seven),
+        refusals::short_index(case.sample.count, *index),
+        refusals::not_finite(assembled),
+    ]
 }
 
 /// Just the right lengths, one short in each and in all, and one longer in each.
@@ -108,12 +130,12 @@ pub fn every_length(
     case: &Case,
     judged: &Result<Assembled, Refusal>,
     records: &Records,
-    exact: [usize; 7],
+    exact: Lengths,
     rng: &mut Rng,
     tally: &mut Tally,
 ) -> Check {
     assembly(case, judged, records, &exact, rng, tally)?;
-    for buffer in 0..7 {
+    for buffer in 0..exact.len() {
         let mut lengths = exact;
         lengths[buffer] += 1;
         assembly(case, judged, records, &lengths, rng, tally)?;
@@ -121,24 +143,36 @@ pub fn every_length(
         assembly(case, judged, records, &lengths, rng, tally)?;
     }
     assembly(case, judged, records, &exact.map(|len| len - 1), rng, tally)?;
-    assembly(case, judged, records, &[0; 7], rng, tally)
+    assembly(case, judged, records, &[0; 8], rng, tally)
 }
 
 /// Lengths of all sorts around what is needed, or small ones where nothing is.
-fn choose_lengths(rng: &mut Rng, expected: Result<Counts, Refusal>) -> [usize; 7] {
-    let Ok(counts) = expected else {
+fn choose_lengths(rng: &mut Rng, judged: &Result<Assembled, Refusal>) -> Lengths {
+    let Ok(assembled) = judged else {
         let limit = if rng.chance(5) { LARGE } else { SMALL };
-        return [(); 7].map(|()| rng.below(limit));
+        return [(); 8].map(|()| rng.below(limit));
     };
-    let mut lengths = needed(counts);
+    let mut lengths = needed(assembled);
     match rng.below(10) {
         0..4 => {}
         4..7 => lengths = lengths.map(|len| len + rng.below(9)),
-        7 => lengths[rng.below(7)] -= 1,
+        7 => lengths[rng.below(8)] -= 1,
         8 => lengths = lengths.map(|len| (len + rng.below(3)).saturating_sub(rng.below(3))),
-        _ => lengths[rng.below(7)] = rng.below(SMALL),
+        _ => lengths[rng.below(8)] = rng.below(SMALL),
+    }
+    if rng.chance(15) {
+        lengths[7] = choose_index_length(rng, assembled.index.len());
     }
     lengths
+}
+
+/// A length of the index whatever the other buffers have: one short, none, or any.
+fn choose_index_length(rng: &mut Rng, exact: usize) -> usize {
+    match rng.below(4) {
+        0 | 1 => exact - 1,
+        2 => 0,
+        _ => rng.below(2 * exact),
+    }
 }
 
 fn equal(call: &str, answer: Answer, expected: Result<Counts, Refusal>) -> Check {
@@ -166,14 +200,18 @@ pub fn ordinary(case: &Case, judged: &Result<Assembled, Refusal>) -> Check {
         return Ok(());
     };
     let problem = case.problem(&objectives);
-    let exact = judged.as_ref().map_or([0; 7], |a| needed(a.counts()));
-    let expected = judge_buffers(judged, &exact);
+    let exact = judged.as_ref().map_or([0; 8], needed);
+    let expected = judge_buffers(case, judged, &exact);
     let sized = copp3_assembly::size(&problem);
     if sized.is_ok() != judged.is_ok() {
         return Err(format!("the wrapper's sizing answers {sized:?}"));
     }
     match (copp3_assembly::assemble(&problem), expected) {
-        (Ok(found), Ok(expected)) => same(&found, expected),
+        (Ok(found), Ok(expected)) => {
+            same(&found, expected)?;
+            owners::by_wrapper(&found, case.sample.count, Asked::Row)?;
+            owners::by_wrapper(&found, case.sample.count, Asked::Column)
+        }
         (Err(found), Err(expected))
             if (found.number(), found.place()) == (expected.number, expected.place) =>
         {
@@ -199,7 +237,8 @@ pub fn same(found: &copp3_assembly::Assembly, expected: &Assembled) -> Check {
         && bits(&found.right).eq(bits(&expected.b))
         && found.kinds == expected.cones.kinds
         && found.dimensions == expected.cones.dims
-        && bits(&found.cost).eq(bits(&expected.q_object));
+        && bits(&found.cost).eq(bits(&expected.q_object))
+        && found.index == expected.index;
     if equal {
         Ok(())
     } else {

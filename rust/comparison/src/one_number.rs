@@ -112,7 +112,7 @@ impl Group {
         // Once more with just enough room, so that no short buffer hides the fault.
         let judged = case.judge();
         let records = case.records(rng);
-        let exact = judged.as_ref().map_or([0; 7], |a| needed(a.counts()));
+        let exact = judged.as_ref().map_or([0; 8], needed);
         crate::assembly(&case, &judged, &records, &exact, rng, tally)
     }
 
@@ -131,8 +131,8 @@ impl Group {
     /// How often each class was met, and its assemblies by answer.
     pub fn report(&self) -> String {
         let mut text = format!(
-            "{:<58} {:>8} {:>9} {:>9} {:>9}\n",
-            self.name, "problems", "accepted", "19", "20"
+            "{:<58} {:>8} {:>9} {:>9} {:>9} {:>9}\n",
+            self.name, "problems", "accepted", "19", "28", "20"
         );
         let all = self.tallies.iter().fold(Tally::default(), |mut all, one| {
             all.add(one);
@@ -140,9 +140,10 @@ impl Group {
         });
         let names = self.classes.iter().map(|class| class.name.as_str());
         for (name, tally) in names.zip(&self.tallies).chain([("all", &all)]) {
-            let [accepted, short, spoiled] = [0, 19, 20].map(|number| tally.met(number));
+            let [accepted, short, no_index, spoiled] =
+                [0, 19, 28, 20].map(|number| tally.met(number));
             text += &format!(
-                "{name:<58} {:>8} {accepted:>9} {short:>9} {spoiled:>9}\n",
+                "{name:<58} {:>8} {accepted:>9} {short:>9} {no_index:>9} {spoiled:>9}\n",
                 tally.problems
             );
         }
@@ -203,6 +204,6 @@ fn draw(rng: &mut Rng, class: &Class, answer: u64) -> Result<Sample, String> {
 
 /// The reference's answer where the buffers have room: 0 or the refusal's number.
 fn judge(sample: &Sample) -> u64 {
-    let answer = reference::assemble(&sample.problem(), &[usize::MAX; 7]);
+    let answer = reference::assemble(&sample.problem(), &[usize::MAX; 7], usize::MAX);
     answer.map_or_else(|refusal| refusal.number, |_| 0)
 }

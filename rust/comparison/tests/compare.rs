@@ -1,5 +1,5 @@
 //! The library against the reference: document 01's ledger, all small shapes, the
-//! limits, 100,000 random and damaged problems, and 20,000 aimed at refusal 20.
+//! limits, 200,000 random and damaged problems, and 20,000 aimed at refusal 20.
 
 use comparison::buffers::needed;
 use comparison::case::Case;
@@ -8,8 +8,7 @@ use comparison::one_number::Group;
 use comparison::rng::{Flavour, Rng};
 use comparison::tally::Tally;
 use comparison::{check, every_length, ordinary, run};
-use copp3_assembly::Refusal;
-use copp3_assembly::raw;
+use copp3_assembly::{Assembly, Owner, Refusal, assemble, assemble_into, index_places, raw};
 use reference::Assembled;
 use reference::sample::{Sample, ledger};
 
@@ -19,7 +18,7 @@ fn thoroughly(case: &Case, rng: &mut Rng, tally: &mut Tally) {
     let judged = case.judge();
     let records = case.records(rng);
     if let Ok(assembled) = &judged {
-        let exact = needed(assembled.counts());
+        let exact = needed(assembled);
         every_length(case, &judged, &records, exact, rng, tally).unwrap();
     }
     ordinary(case, &judged).unwrap();
@@ -28,7 +27,7 @@ fn thoroughly(case: &Case, rng: &mut Rng, tally: &mut Tally) {
 #[test]
 fn random_problems() {
     let mut tally = Tally::default();
-    run(20260101, 0, 100_000, &mut tally).unwrap();
+    run(20260101, 0, 200_000, &mut tally).unwrap();
     println!("{tally}");
     tally.covers(50).unwrap();
 }
@@ -158,6 +157,34 @@ fn longest_grids() {
     }
 }
 
+/// The wrapper's index: owners of case A, one place fewer, and two more than needed.
+#[test]
+fn index_of_the_wrapper() {
+    let case = Case::new(ledger().remove(0).0);
+    let objectives = case.ordinary().unwrap();
+    let problem = case.problem(&objectives);
+    let mut out = assemble(&problem).unwrap();
+    assert_eq!(out.index.len(), index_places(1));
+    assert_eq!(out.owner_of_row(10), Ok(Owner::StandardRows));
+    assert_eq!(out.owner_of_row(11), Ok(Owner::RootStage));
+    assert_eq!(out.owner_of_row(15), Ok(Owner::Objective(0)));
+    assert_eq!(out.owner_of_row(19), Err(Refusal::NoOwner));
+    assert_eq!(out.owner_of_column(5), Err(Refusal::NoOwner));
+    assert_eq!(out.owner_of_column(7), Ok(Owner::Objective(0)));
+    let index = out.index.clone();
+    out.index.pop();
+    let short = assemble_into(&problem, &mut out.buffers());
+    assert_eq!(short, Err(Refusal::ShortIndex));
+    out.index = vec![7; 26];
+    assemble_into(&problem, &mut out.buffers()).unwrap();
+    assert_eq!(out.index, [&index[..], &[7, 7]].concat());
+    assert_eq!(
+        Assembly::default().owner_of_row(0),
+        Err(Refusal::ShortIndex)
+    );
+    assert_eq!(Owner::Objective(3).to_string(), "objective 3");
+}
+
 #[test]
 fn refusals_have_words() {
     for number in 0..64 {
@@ -169,6 +196,8 @@ fn refusals_have_words() {
     }
     let words = Refusal::new(15, 12).to_string();
     assert_eq!(words, "table 12 (torque b) has a wrong length");
+    assert_eq!(Refusal::new(28, 0), Refusal::ShortIndex);
+    assert_eq!(Refusal::new(29, 0), Refusal::NoOwner);
     assert_eq!(Refusal::new(3, 1).place(), 1);
     assert_eq!(Refusal::new(39, 5).place(), 5);
 }

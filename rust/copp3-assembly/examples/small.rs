@@ -1,5 +1,6 @@
-//! Assembles two small problems and prints them: document 01's case A, and a
-//! path that starts at rest, with rows of every sort and all four objectives.
+//! Assembles two small problems and prints them, each row with its owner: document
+//! 01's case A, and a path that starts at rest, with rows of every sort and all four
+//! objectives.
 
 use copp3_assembly::{Assembly, Boundary, Bounds, Objective, Problem, Refusal, assemble};
 
@@ -37,6 +38,23 @@ fn case_a() -> Problem<'static> {
     }
 }
 
+/// Who has written a row, in words.
+fn owner(out: &Assembly, row: u32) -> String {
+    match out.owner_of_row(row as usize) {
+        Ok(owner) => owner.to_string(),
+        Err(refusal) => refusal.to_string(),
+    }
+}
+
+/// The owners of the columns behind those of a and b.
+fn print_column_owners(out: &Assembly) {
+    for column in 0..out.cost.len() {
+        if let Ok(owner) = out.owner_of_column(column) {
+            println!("  z{column} belongs to {owner}");
+        }
+    }
+}
+
 fn print(title: &str, answer: Result<Assembly, Refusal>) {
     println!("{title}");
     let out = match answer {
@@ -64,11 +82,12 @@ fn print(title: &str, answer: Result<Assembly, Refusal>) {
             for i in (0..out.rows.len()).filter(|&i| out.rows[i] == row) {
                 print!(" {:+} z{}", out.values[i], out.columns[i]);
             }
-            println!(" | {}", out.right[row as usize]);
+            println!(" | {} ({})", out.right[row as usize], owner(&out, row));
             row += 1;
         }
     }
     println!("  cost {:?}", out.cost);
+    print_column_owners(&out);
 }
 
 fn main() {

@@ -6,14 +6,17 @@
 //! is lent, the answer is an assembled problem or a [`Refusal`].
 //!
 //! The output is in Clarabel's form: A·z + slack = right side, the slack in the
-//! product of the cones, rows in cone order.
+//! product of the cones, rows in cone order. Beside it stands an index, from which
+//! [`owner_of_row`] and [`owner_of_column`] tell whose a row or a column is.
 
+mod owner;
 pub mod raw;
 mod refusal;
 
 use raw::{Answer, Job, Record, Records, Tables};
 use std::ops::Range;
 
+pub use owner::{Owner, index_places, owner_of_column, owner_of_row};
 pub use raw::Buffers;
 pub use refusal::{End, Refusal, TABLES};
 
@@ -249,11 +252,13 @@ pub struct Assembly {
     pub kinds: Vec<u8>,
     pub dimensions: Vec<u32>,
     pub cost: Vec<f64>,
+    /// Eight numbers for each owner: first entry, row, cone and column, then how many of each.
+    pub index: Vec<u64>,
 }
 
 impl Assembly {
-    /// Empty vectors with room for so much.
-    pub fn with_room(counts: Counts) -> Self {
+    /// Empty vectors with room for so much, and for the index of so many objectives.
+    pub fn with_room(counts: Counts, objectives: usize) -> Self {
         Self {
             rows: Vec::with_capacity(counts.entries),
             columns: Vec::with_capacity(counts.entries),
@@ -262,6 +267,7 @@ impl Assembly {
             kinds: Vec::with_capacity(counts.cones),
             dimensions: Vec::with_capacity(counts.cones),
             cost: Vec::with_capacity(counts.columns),
+            index: Vec::with_capacity(index_places(objectives)),
         }
     }
 
@@ -275,6 +281,7 @@ impl Assembly {
             kinds: &mut self.kinds,
             dimensions: &mut self.dimensions,
             cost: &mut self.cost,
+            index: &mut self.index,
         }
     }
 
@@ -282,6 +289,21 @@ impl Assembly {
     pub fn cones(&self) -> impl Iterator<Item = (Option<ConeKind>, u32)> + '_ {
         let kinds = self.kinds.iter().map(|&kind| ConeKind::new(kind));
         kinds.zip(self.dimensions.iter().copied())
+    }
+
+    /// The number of objectives, by the index's length.
+    fn objectives(&self) -> usize {
+        (self.index.len() / 8).saturating_sub(2)
+    }
+
+    /// Whose a row is.
+    pub fn owner_of_row(&self, row: usize) -> Result<Owner, Refusal> {
+        owner_of_row(&self.index, self.objectives(), row)
+    }
+
+    /// Whose a column is; those of a and b have no owner.
+    pub fn owner_of_column(&self, column: usize) -> Result<Owner, Refusal> {
+        owner_of_column(&self.index, self.objectives(), column)
     }
 }
 
@@ -294,9 +316,10 @@ pub fn size(problem: &Problem) -> Result<Counts, Refusal> {
     ))
 }
 
-/// Assembles into lent buffers, from index 0; nothing past the counts changes.
+/// Assembles into lent buffers, from place 0 of each; nothing past the counts changes.
 ///
-/// A refusal changes no byte of any buffer.
+/// The index needs [`index_places`] of the number of objectives. A refusal changes no byte of
+/// any buffer.
 pub fn assemble_into(problem: &Problem, out: &mut Buffers) -> Result<Counts, Refusal> {
     counts(raw::assemble(
         problem.job(),
@@ -308,7 +331,7 @@ pub fn assemble_into(problem: &Problem, out: &mut Buffers) -> Result<Counts, Ref
 
 /// Sizes, then assembles into vectors of just these lengths.
 pub fn assemble(problem: &Problem) -> Result<Assembly, Refusal> {
-    let mut out = Assembly::with_room(size(problem)?);
+    let mut out = Assembly::with_room(size(problem)?, problem.objectives.len());
     counts(raw::assemble_reserved(
         problem.job(),
         problem.records(),

@@ -3,7 +3,7 @@
 //! The functions here are safe: a slice is never null, `&mut` buffers neither
 //! overlap each other nor any table, and the library demands nothing else.
 
-use crate::{Assembly, Boundary, Bounds};
+use crate::{Assembly, Boundary, Bounds, index_places};
 
 /// What the library takes by value beside the objectives.
 #[repr(C)]
@@ -50,6 +50,16 @@ pub struct Answer {
     pub columns: u64,
 }
 
+/// Whose a row or a column is. Number 0 comes with the owner, 28 and 29 with owner 0.
+#[repr(C)]
+#[derive(Clone, Copy, Debug, PartialEq, Eq)]
+pub struct OwnerAnswer {
+    pub number: u64,
+    pub place: u64,
+    /// 0 the standard rows, 1 the root stage, 2 + i objective i.
+    pub owner: u64,
+}
+
 /// The lent tables: grid, tables 0 to 15 in order, pool.
 #[derive(Clone, Copy, Debug)]
 pub struct Tables<'a> {
@@ -73,7 +83,7 @@ pub struct Tables<'a> {
     pub pool: &'a [f64],
 }
 
-/// The seven output buffers, in the order of refusal 19's places.
+/// The output buffers: seven in the order of refusal 19's places, then the index.
 #[derive(Debug)]
 pub struct Buffers<'a> {
     pub rows: &'a mut [u32],
@@ -83,12 +93,14 @@ pub struct Buffers<'a> {
     pub kinds: &'a mut [u8],
     pub dimensions: &'a mut [u32],
     pub cost: &'a mut [f64],
+    /// Needs eight places for each owner: [`index_places`].
+    pub index: &'a mut [u64],
 }
 
 /// Where a buffer begins, and its length.
 type Place<T> = (*mut T, usize);
 
-/// The seven buffers as the C interface takes them.
+/// The buffers as the C interface takes them.
 struct Places {
     rows: Place<u32>,
     columns: Place<u32>,
@@ -97,6 +109,7 @@ struct Places {
     kinds: Place<u8>,
     dimensions: Place<u32>,
     cost: Place<f64>,
+    index: Place<u64>,
 }
 
 fn lent<T>(buffer: &mut [T]) -> Place<T> {
@@ -105,6 +118,34 @@ fn lent<T>(buffer: &mut [T]) -> Place<T> {
 
 fn reserved<T>(vector: &mut Vec<T>) -> Place<T> {
     (vector.as_mut_ptr(), vector.capacity())
+}
+
+unsafe extern "C" {
+    fn copp3_owner_of_row(
+        index: *const u64,
+        index_len: usize,
+        objectives: usize,
+        row: usize,
+    ) -> OwnerAnswer;
+
+    fn copp3_owner_of_column(
+        index: *const u64,
+        index_len: usize,
+        objectives: usize,
+        column: usize,
+    ) -> OwnerAnswer;
+}
+
+/// The lowest owner of a row by any index: 28 where it is too short, 29 where no owner has the row.
+pub fn owner_of_row(index: &[u64], objectives: usize, row: usize) -> OwnerAnswer {
+    // SAFETY: the pointer comes with its slice's length, and is only read.
+    unsafe { copp3_owner_of_row(index.as_ptr(), index.len(), objectives, row) }
+}
+
+/// The same for a column.
+pub fn owner_of_column(index: &[u64], objectives: usize, column: usize) -> OwnerAnswer {
+    // SAFETY: as in `owner_of_row`.
+    unsafe { copp3_owner_of_column(index.as_ptr(), index.len(), objectives, column) }
 }
 
 /// Declares both entry points over the same list of lent tables.
@@ -122,6 +163,7 @@ macro_rules! entry_points {
                 kinds: *mut u8, kinds_len: usize,
                 dimensions: *mut u32, dimensions_len: usize,
                 cost: *mut f64, cost_len: usize,
+                index: *mut u64, index_len: usize,
             ) -> Answer;
         }
 
@@ -145,6 +187,7 @@ macro_rules! entry_points {
                     out.kinds.0, out.kinds.1,
                     out.dimensions.0, out.dimensions.1,
                     out.cost.0, out.cost.1,
+                    out.index.0, out.index.1,
                 )
             }
         }
@@ -182,6 +225,7 @@ pub fn assemble(job: Job, objectives: Records, t: &Tables, out: &mut Buffers) ->
         kinds: lent(out.kinds),
         dimensions: lent(out.dimensions),
         cost: lent(out.cost),
+        index: lent(out.index),
     };
     // SAFETY: the buffers are borrowed mutably, so nothing overlaps them.
     unsafe { assemble_at(job, objectives, t, places) }
@@ -198,6 +242,7 @@ pub fn assemble_reserved(job: Job, objectives: Records, t: &Tables, out: &mut As
         kinds: reserved(&mut out.kinds),
         dimensions: reserved(&mut out.dimensions),
         cost: reserved(&mut out.cost),
+        index: reserved(&mut out.index),
     };
     // SAFETY: a vector owns what it has reserved, and all are borrowed mutably.
     let answer = unsafe { assemble_at(job, objectives, t, places) };
@@ -209,7 +254,8 @@ pub fn assemble_reserved(job: Job, objectives: Records, t: &Tables, out: &mut As
             answer.columns as usize,
         ];
         // SAFETY: proved of the library: after acceptance every place below these counts was
-        // written, and each buffer has them, since a shorter one is refused as 19.
+        // written, and of the index those of all owners; each buffer has them, since a shorter
+        // one is refused as 19 or 28. An accepted job has at most 16 objectives.
         unsafe {
             out.rows.set_len(entries);
             out.columns.set_len(entries);
@@ -218,6 +264,7 @@ pub fn assemble_reserved(job: Job, objectives: Records, t: &Tables, out: &mut As
             out.kinds.set_len(cones);
             out.dimensions.set_len(cones);
             out.cost.set_len(columns);
+            out.index.set_len(index_places(job.count));
         }
     }
     answer

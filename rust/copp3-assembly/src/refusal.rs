@@ -1,4 +1,4 @@
-//! The refusals of document 01, by name, in the planner's words.
+//! The refusals of documents 01 and 02, by name, in the planner's words.
 
 use std::error::Error;
 use std::fmt;
@@ -10,7 +10,7 @@ pub enum End {
     Terminal,
 }
 
-/// Why a problem was refused, and where. No output buffer has changed.
+/// Why a problem or a question was refused, and where. No output buffer has changed.
 #[derive(Clone, Copy, Debug, PartialEq, Eq)]
 pub enum Refusal {
     /// 1; place 0 to 3 for initial a, terminal a, initial b, terminal b.
@@ -49,10 +49,14 @@ pub enum Refusal {
     Bound { place: u64 },
     /// 18
     BoundsCrossed { end: End },
-    /// 19; the buffer's place among the seven.
+    /// 19; the buffer's place among the seven before the index.
     ShortBuffer { buffer: u64 },
     /// 20
     NotFinite,
+    /// 28, tested between 19 and 20; also of an index that is asked for an owner.
+    ShortIndex,
+    /// 29, of a row or column that is asked for.
+    NoOwner,
     /// 40, of the C interface: a record's kind is none of the four.
     UnknownKind { objective: u64 },
     /// A number that this crate doesn't know.
@@ -93,17 +97,19 @@ impl Refusal {
             18 => at_end(|end| Self::BoundsCrossed { end }),
             19 => Self::ShortBuffer { buffer: place },
             20 => Self::NotFinite,
+            28 => Self::ShortIndex,
+            29 => Self::NoOwner,
             40 => Self::UnknownKind { objective: place },
             _ => other,
         }
     }
 
-    /// The number in document 01.
+    /// The number in documents 01 and 02.
     pub fn number(self) -> u64 {
         self.parts().0
     }
 
-    /// The place in document 01, 0 where none is named.
+    /// The place, 0 where none is named.
     pub fn place(self) -> u64 {
         self.parts().1
     }
@@ -130,6 +136,8 @@ impl Refusal {
             Self::BoundsCrossed { end } => (18, end as u64),
             Self::ShortBuffer { buffer } => (19, buffer),
             Self::NotFinite => (20, 0),
+            Self::ShortIndex => (28, 0),
+            Self::NoOwner => (29, 0),
             Self::UnknownKind { objective } => (40, objective),
             Self::Other { number, place } => (number, place),
         }
@@ -251,6 +259,8 @@ impl fmt::Display for Refusal {
             Self::NotFinite => {
                 f.write_str("a number to be written to values, right side or cost is not finite")
             }
+            Self::ShortIndex => f.write_str("the index has fewer than eight places for each owner"),
+            Self::NoOwner => f.write_str("no owner has this row or column"),
             Self::UnknownKind { objective } => {
                 write!(f, "objective {objective}: the kind is unknown")
             }

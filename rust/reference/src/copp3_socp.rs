@@ -8,6 +8,7 @@ use crate::clarabel_constraints::{
     Topp3Problem, clarabel_standard_capacity_topp3, clarabel_standard_constraint_topp3,
 };
 use crate::formulation::get_weight_a_topp3;
+use crate::index::Index;
 use crate::objectives::{CoppObjective, copp_objectives};
 use crate::{Counts, Problem};
 
@@ -34,16 +35,13 @@ pub struct Assembled {
     pub b: Vec<f64>,
     pub cones: Cones,
     pub q_object: Vec<f64>,
+    /// Eight numbers for each owner, see `index`.
+    pub index: Vec<u64>,
 }
 
 impl Assembled {
     pub fn counts(&self) -> Counts {
-        Counts {
-            entries: self.val.len(),
-            rows: self.b.len(),
-            cones: self.cones.len(),
-            columns: self.q_object.len(),
-        }
+        tally(&self.val, &self.b, &self.cones, self.q_object.len())
     }
 }
 
@@ -72,6 +70,8 @@ pub fn copp3_socp_core(problem: &Problem, reserve: Reserve) -> Result<Assembled,
     let mut val = Vec::<f64>::with_capacity(cap_val);
     let mut b = Vec::<f64>::with_capacity(cap_b);
     let mut cones = Cones::with_capacity(cap_cone);
+    let mut index = Index::default();
+    let start = tally(&val, &b, &cones, 2 * (n + 1));
     // Step 1. constraints of the standard problem
     clarabel_standard_constraint_topp3(
         &Topp3Problem::new(problem),
@@ -79,6 +79,8 @@ pub fn copp3_socp_core(problem: &Problem, reserve: Reserve) -> Result<Assembled,
         (&mut row, &mut col, &mut val, &mut b, &mut cones),
         num_stationary,
     )?;
+    let standard = tally(&val, &b, &cones, 2 * (n + 1));
+    index.note(start, standard);
     // Step 2.1. determine whether xi=sqrt(a) is needed
     let n_var_old = clarabel_sqrt_a_copp3(
         n,
@@ -86,6 +88,7 @@ pub fn copp3_socp_core(problem: &Problem, reserve: Reserve) -> Result<Assembled,
         (&mut row, &mut col, &mut val, &mut b, &mut cones),
         num_stationary,
     );
+    index.note(standard, tally(&val, &b, &cones, n_var_old));
     let mut q_object = Vec::<f64>::with_capacity(n_vars);
     q_object.resize(n_var_old, 0.0);
     // Step 2.2. add constraints and objective for each term in the objective
@@ -101,6 +104,7 @@ pub fn copp3_socp_core(problem: &Problem, reserve: Reserve) -> Result<Assembled,
             &mut cones,
             &mut q_object,
         ),
+        &mut index,
     )?;
     Ok(Assembled {
         row,
@@ -109,7 +113,18 @@ pub fn copp3_socp_core(problem: &Problem, reserve: Reserve) -> Result<Assembled,
         b,
         cones,
         q_object,
+        index: index.into_numbers(),
     })
+}
+
+/// How much there is of everything; the columns of a and b are there from the beginning.
+fn tally(val: &[f64], b: &[f64], cones: &Cones, columns: usize) -> Counts {
+    Counts {
+        entries: val.len(),
+        rows: b.len(),
+        cones: cones.len(),
+        columns,
+    }
 }
 
 /// Determine the length of xi[k] = sqrt(a[k + k_skip]) in the decision variable x.
@@ -248,6 +263,7 @@ pub fn clarabel_objective_copp3(
     objectives: &[CoppObjective],
     num_stationary: (usize, usize),
     objective_constraints: ObjConsClarabel,
+    index: &mut Index,
 ) -> Result<(), CoppError> {
     let (row, col, val, b, cones, q_object) = objective_constraints;
     let s = problem.grid;
@@ -267,6 +283,7 @@ pub fn clarabel_objective_copp3(
         g: problem.torque_g,
     };
     for obj in objectives {
+        let before = tally(val, b, cones, q_object.len());
         let valid = match *obj {
             CoppObjective::Time(weight) => clarabel_objective_time_copp3(
                 s,
@@ -306,6 +323,7 @@ pub fn clarabel_objective_copp3(
         if !valid {
             return Err(CoppError::InvalidInput);
         }
+        index.note(before, tally(val, b, cones, q_object.len()));
     }
     Ok(())
 }

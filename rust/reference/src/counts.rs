@@ -1,4 +1,5 @@
-//! Document 01's counts and demand 3's facts, to check what the assembly has produced.
+//! Document 01's counts, demand 3's facts and request 6's ranges, to check what the assembly
+//! has produced.
 //!
 //! Nothing here is used to produce it.
 
@@ -14,11 +15,24 @@ pub struct Counts {
 }
 
 impl Counts {
-    fn add(&mut self, entries: usize, rows: usize, cones: usize, columns: usize) {
-        self.entries += entries;
-        self.rows += rows;
-        self.cones += cones;
-        self.columns += columns;
+    fn new(entries: usize, rows: usize, cones: usize, columns: usize) -> Self {
+        Self {
+            entries,
+            rows,
+            cones,
+            columns,
+        }
+    }
+
+    pub fn numbers(self) -> [usize; 4] {
+        [self.entries, self.rows, self.cones, self.columns]
+    }
+
+    fn add(&mut self, more: Self) {
+        self.entries += more.entries;
+        self.rows += more.rows;
+        self.cones += more.cones;
+        self.columns += more.columns;
     }
 }
 
@@ -68,39 +82,65 @@ fn letters(problem: &Problem) -> Letters {
     }
 }
 
-/// The four counts by document 01's formulas.
-pub fn by_formula(problem: &Problem) -> Counts {
+/// What each owner has by document 01's formulas: standard rows, root stage, objectives.
+///
+/// The columns of a and b belong to none.
+fn owners_by_formula(problem: &Problem) -> Vec<Counts> {
+    let letters = letters(problem);
+    let l = letters.l;
+    let root = if letters.root {
+        Counts::new(4 * l, 4 * l, 1 + l, l)
+    } else {
+        Counts::default()
+    };
+    let objectives = problem.objectives[..problem.count].iter();
+    [standard_by_formula(&letters), root]
+        .into_iter()
+        .chain(objectives.map(|objective| objective_by_formula(&letters, objective)))
+        .collect()
+}
+
+fn standard_by_formula(letters: &Letters) -> Counts {
     let Letters {
-        n,
         m,
         p,
-        l,
-        d,
         u,
         a_inner,
         j_inner,
-        root,
-    } = letters(problem);
-    let mut counts = Counts {
-        entries: 3 + 3 * p + 10 * m + u + 2 * a_inner + 3 * j_inner,
-        rows: 3 + 2 * p + 4 * m + u + a_inner + j_inner,
-        cones: 2,
-        columns: 2 * n + 2,
-    };
-    if root {
-        counts.add(4 * l, 4 * l, 1 + l, l);
-    }
-    for objective in &problem.objectives[..problem.count] {
-        match objective {
-            Objective::Time(..) => counts.add(5 * l, 4 * l, 1 + l, l),
-            Objective::ThermalEnergy(..) => {
-                counts.add((4 + 2 * d) * (p + l), (2 + d) * (p + l), p + l, p + l);
-            }
-            Objective::TotalVariationTorque(..) => {
-                counts.add(6 * d * p + 10 * d * m, 2 * d * (p + m), 1, d * (p + m));
-            }
-            Objective::Linear(..) => {}
+        ..
+    } = *letters;
+    Counts::new(
+        3 + 3 * p + 10 * m + u + 2 * a_inner + 3 * j_inner,
+        3 + 2 * p + 4 * m + u + a_inner + j_inner,
+        2,
+        0,
+    )
+}
+
+fn objective_by_formula(letters: &Letters, objective: &Objective) -> Counts {
+    let Letters { m, p, l, d, .. } = *letters;
+    match objective {
+        Objective::Time(..) => Counts::new(5 * l, 4 * l, 1 + l, l),
+        Objective::ThermalEnergy(..) => {
+            Counts::new((4 + 2 * d) * (p + l), (2 + d) * (p + l), p + l, p + l)
         }
+        Objective::TotalVariationTorque(..) => {
+            Counts::new(6 * d * p + 10 * d * m, 2 * d * (p + m), 1, d * (p + m))
+        }
+        Objective::Linear(..) => Counts::default(),
+    }
+}
+
+/// The columns of a and b.
+fn columns_of_none(problem: &Problem) -> Counts {
+    Counts::new(0, 0, 0, 2 * problem.grid.len())
+}
+
+/// The four counts by document 01's formulas.
+pub fn by_formula(problem: &Problem) -> Counts {
+    let mut counts = columns_of_none(problem);
+    for owner in owners_by_formula(problem) {
+        counts.add(owner);
     }
     counts
 }
@@ -145,7 +185,45 @@ pub fn check_facts(problem: &Problem, assembled: &Assembled) -> Result<(), Strin
     if dims != counts.rows {
         return Err(format!("cones of {dims} rows, {} rows", counts.rows));
     }
-    check_positions(assembled, counts)
+    check_positions(assembled, counts)?;
+    check_owners(problem, assembled)
+}
+
+/// The owners' ranges follow each other without gap or overlap, from 0 and, for columns, from
+/// 2n + 2 up to the counts, each as long as its formulas say.
+fn check_owners(problem: &Problem, assembled: &Assembled) -> Result<(), String> {
+    let owners = owners_by_formula(problem);
+    if assembled.index.len() != 8 * owners.len() {
+        return Err(format!("an index of {} numbers", assembled.index.len()));
+    }
+    let mut tally = columns_of_none(problem);
+    for (owner, (noted, formula)) in assembled.index.chunks(8).zip(owners).enumerate() {
+        let expected = [tally.numbers(), formula.numbers()].concat();
+        if !noted.iter().zip(&expected).all(|(&a, &b)| a == b as u64) {
+            return Err(format!("owner {owner}: {noted:?}, expected {expected:?}"));
+        }
+        check_entries(assembled, noted).map_err(|fault| format!("owner {owner}: {fault}"))?;
+        tally.add(formula);
+    }
+    if tally != assembled.counts() {
+        return Err(format!("the owners' ranges end at {tally:?}"));
+    }
+    Ok(())
+}
+
+/// The entries of an owner lie in its rows, and its cones have just these rows.
+fn check_entries(assembled: &Assembled, noted: &[u64]) -> Result<(), String> {
+    let range = |sort: usize| noted[sort] as usize..(noted[sort] + noted[sort + 4]) as usize;
+    let (entries, rows, cones) = (range(0), range(1), range(2));
+    let found = assembled.row[entries].iter();
+    if let Some(row) = found.clone().find(|&&row| !rows.contains(&(row as usize))) {
+        return Err(format!("an entry at row {row}, its rows are {rows:?}"));
+    }
+    let dims: u32 = assembled.cones.dims[cones].iter().sum();
+    if dims as usize != rows.len() {
+        return Err(format!("cones of {dims} rows, its rows are {rows:?}"));
+    }
+    Ok(())
 }
 
 /// Every entry names an existing row and column, and no position is named twice.

@@ -7,16 +7,22 @@
 //! jerk blocks, torque coefficients, thermal weights, cube roots), the lent
 //! table stands instead.
 //!
-//! `refusals` and `counts` are a second reading of document 01, kept apart from
-//! the translation: the first says which problems never reach it, the second
-//! only checks what it has produced.
+//! Beside what is assembled, the core notes how long its vectors are before and
+//! after each owner's part; that is request 6's index.
+//!
+//! `refusals`, `counts` and `owners` are a second reading of documents 01 and 02,
+//! kept apart from the translation: the first says which problems never reach it,
+//! the second only checks what it has produced, the third answers whose a row or a
+//! column is by any index.
 
 pub mod clarabel_backend;
 pub mod clarabel_constraints;
 pub mod copp3_socp;
 pub mod counts;
 pub mod formulation;
+pub mod index;
 pub mod objectives;
+pub mod owners;
 pub mod refusals;
 pub mod sample;
 
@@ -100,10 +106,16 @@ pub fn size(problem: &Problem) -> Result<Counts, Refusal> {
     judge(problem).map(|assembled| assembled.counts())
 }
 
-/// The assembly, for output buffers of the lengths given (in the order of refusal 19).
-pub fn assemble(problem: &Problem, lengths: &[usize; 7]) -> Result<Assembled, Refusal> {
+/// The assembly, for output buffers of the lengths given (in the order of refusal 19) and an
+/// index buffer.
+pub fn assemble(
+    problem: &Problem,
+    lengths: &[usize; 7],
+    index_len: usize,
+) -> Result<Assembled, Refusal> {
     let assembled = judge(problem)?;
     refusals::short_buffer(assembled.counts(), lengths)?;
+    refusals::short_index(problem.count, index_len)?;
     refusals::not_finite(&assembled)?;
     Ok(assembled)
 }

@@ -1,7 +1,7 @@
-//! Document 01's refusals, read from the document and from nothing else.
+//! The refusals of documents 01 and 02, read from the documents and from nothing else.
 //!
-//! Numbers 1 to 18 are judged on the problem, 19 on seven lengths and 20 on the
-//! numbers that the assembly has produced.
+//! Numbers 1 to 18 are judged on the problem, 19 on seven lengths, 28 on the length
+//! of the index and 20 on the numbers that the assembly has produced.
 
 use crate::{Assembled, Bounds, Counts, Objective, Part, Problem};
 
@@ -208,6 +208,15 @@ pub fn short_buffer(counts: Counts, lengths: &[usize; 7]) -> Check {
         19,
         lengths.iter().zip(needed).map(|(&len, need)| len < need),
     )
+}
+
+/// 28 an index without eight places for each owner; there are two owners more than objectives.
+pub fn short_index(objectives: usize, index_len: usize) -> Check {
+    let needed = 8 * (objectives as u128 + 2);
+    if (index_len as u128) < needed {
+        return refuse(28, 0);
+    }
+    Ok(())
 }
 
 /// 20 a number to be written to values, right side or cost is not finite.

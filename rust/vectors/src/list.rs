@@ -14,8 +14,8 @@ pub struct Case {
     pub unknown: Option<(usize, u8)>,
     /// Places more than needed in every buffer.
     pub longer: usize,
-    /// A buffer with one place fewer.
-    pub short: Option<usize>,
+    /// Buffers with one place fewer; 7 is the index.
+    pub short: Vec<usize>,
 }
 
 fn case(group: u8, sample: Sample) -> Case {
@@ -24,7 +24,7 @@ fn case(group: u8, sample: Sample) -> Case {
         sample,
         unknown: None,
         longer: 0,
-        short: None,
+        short: vec![],
     }
 }
 
@@ -42,12 +42,11 @@ pub fn cases() -> Vec<Case> {
 
 /// Small random problems over the stationary counts; unread places hold anything.
 fn shapes() -> Vec<Case> {
-    let mut rng = Rng::new(5);
+    let mut rng = Rng::new(2);
     let ends = [
         (2, (0, 1)),
         (3, (0, 2)),
         (4, (2, 1)),
-        (3, (1, 1)),
         (5, (3, 1)),
         (4, (0, 3)),
         (6, (2, 3)),
@@ -64,7 +63,7 @@ fn shapes() -> Vec<Case> {
 fn few_rows(rng: &mut Rng, n: usize, ends: (usize, usize), d: usize, count: usize) -> Sample {
     loop {
         let sample = shaped(rng, n, ends, d, count, Flavour::Tame);
-        if sample.rows.iter().flatten().sum::<u32>() <= 8 {
+        if sample.rows.iter().flatten().sum::<u32>() <= 6 {
             return sample;
         }
     }
@@ -101,24 +100,41 @@ fn floats() -> Vec<Case> {
     }
     let mut large = Sample::plain(2, (0, 0), 1).with_linear(1e200, &[1e100; 3], &[-1e107; 3]);
     large.grid = vec![-1e300, 1.0, 1e300];
-    let over = Sample::plain(2, (0, 0), 1).with_linear(1e200, &[1e109; 3], &[0.0; 3]);
-    let samples = [all_four(), signed, close, jerk, large, over];
+    let samples = [all_four(), signed, close, jerk, large, overflowing()];
     samples.into_iter().map(|s| case(b'F', s)).collect()
 }
 
+/// Each buffer one place short, all longer, index and cost short, an index short where a
+/// number is not finite, and the longest index.
 fn buffers() -> Vec<Case> {
-    let plain = || case(b'B', Sample::plain(2, (0, 0), 1).with_time(1.0));
-    let mut cases: Vec<Case> = (0..7)
-        .map(|buffer| Case {
-            short: Some(buffer),
-            ..plain()
-        })
-        .collect();
+    let plain = || Sample::plain(2, (0, 0), 1).with_time(1.0);
+    let short = |sample: Sample, short: &[usize]| Case {
+        short: short.to_vec(),
+        ..case(b'B', sample)
+    };
+    let mut cases: Vec<Case> = (0..8).map(|buffer| short(plain(), &[buffer])).collect();
     cases.push(Case {
         longer: 3,
-        ..plain()
+        ..case(b'B', plain())
     });
+    cases.push(short(plain(), &[6, 7]));
+    cases.push(short(overflowing(), &[7]));
+    cases.push(case(b'B', sixteen()));
     cases
+}
+
+/// As many objectives as there may be, hence the longest index; only the last has rows.
+fn sixteen() -> Sample {
+    let first = Sample::plain(2, (0, 0), 1).with_linear(1.0, &[1.0; 3], &[0.5; 3]);
+    let again = first.objectives[0];
+    (1..15)
+        .fold(first, |sample, _| sample.with(again))
+        .with_time(1.0)
+}
+
+/// A cost that is not finite.
+fn overflowing() -> Sample {
+    Sample::plain(2, (0, 0), 1).with_linear(1e200, &[1e109; 3], &[0.0; 3])
 }
 
 /// An accepted problem with a stationary start and two objectives, with a change.

@@ -17,12 +17,13 @@
 //!             tables 2 to 15 (floats), pool (floats)
 //!             records: kind (1 byte), weight (float), start, length, second
 //!             start, second length (8 bytes each)
-//! 7 x 4       lengths of the buffers lent to the assembly
+//! 8 x 4       lengths of the buffers lent to the assembly, the index's last
 //! 6 x 4       sizing's answer: number, place, entries, rows, cones, columns
 //! 2 x 4       the assembly's answer: number, place
 //!             if that number is 0, what the buffers hold below the counts: rows
 //!             and columns (4 bytes each), values and right side (floats), kinds
-//!             (1 byte each), dimensions (4 bytes each), cost (floats)
+//!             (1 byte each), dimensions (4 bytes each), cost (floats); then
+//!             the index below 8 x (number of objectives + 2) (8 bytes each)
 //! ```
 
 mod list;
@@ -57,6 +58,12 @@ impl File {
 
     fn floats(&mut self, numbers: &[f64]) {
         numbers.iter().for_each(|&number| self.float(number));
+    }
+
+    fn longs(&mut self, numbers: &[u64]) {
+        numbers
+            .iter()
+            .for_each(|number| self.0.extend(number.to_le_bytes()));
     }
 
     fn indices(&mut self, numbers: &[u32]) {
@@ -124,63 +131,87 @@ fn judge(case: &Case) -> Result<Assembled, Refusal> {
     }
 }
 
-fn needed(counts: Counts) -> [usize; 7] {
-    let e = counts.entries;
-    [
-        e,
-        e,
-        e,
-        counts.rows,
-        counts.cones,
-        counts.cones,
-        counts.columns,
-    ]
+/// The lengths that a judged problem needs, 0 where it is refused.
+fn needed(judged: &Result<Assembled, Refusal>) -> [usize; 8] {
+    let Ok(assembled) = judged else {
+        return [0; 8];
+    };
+    let [e, rows, cones, columns] = assembled.counts().numbers();
+    [e, e, e, rows, cones, cones, columns, assembled.index.len()]
+}
+
+/// The lengths that are lent.
+fn lengths(case: &Case, judged: &Result<Assembled, Refusal>) -> [usize; 8] {
+    let mut lengths = needed(judged).map(|len| len + case.longer);
+    for &buffer in &case.short {
+        lengths[buffer] -= 1;
+    }
+    lengths
+}
+
+/// Refusals 19, 28 and 20 over what was judged before.
+fn assemble(
+    case: &Case,
+    judged: Result<Assembled, Refusal>,
+    lengths: &[usize; 8],
+) -> Result<Assembled, Refusal> {
+    let assembled = judged?;
+    let [seven @ .., index] = lengths;
+    refusals::short_buffer(assembled.counts(), seven)?;
+    refusals::short_index(case.sample.count, *index)?;
+    refusals::not_finite(&assembled)?;
+    Ok(assembled)
 }
 
 fn answers(file: &mut File, case: &Case) {
     let judged = judge(case);
-    let counts = judged.as_ref().map_or(Counts::default(), Assembled::counts);
-    let mut lengths = needed(counts).map(|len| len + case.longer);
-    if let Some(buffer) = case.short {
-        lengths[buffer] -= 1;
-    }
+    let lengths = lengths(case, &judged);
     lengths.iter().for_each(|&len| file.short(len));
-    let sized = judged
-        .as_ref()
-        .err()
-        .map_or((0, 0), |r| (r.number, r.place));
-    for number in [sized.0 as usize, sized.1 as usize] {
-        file.short(number);
+    match &judged {
+        Err(refusal) => refused(file, refusal),
+        Ok(_) => accepted(file),
     }
-    for number in [counts.entries, counts.rows, counts.cones, counts.columns] {
-        file.short(number);
-    }
-    let assembly = judged.and_then(|assembled| {
-        refusals::short_buffer(counts, &lengths)?;
-        refusals::not_finite(&assembled)?;
-        Ok(assembled)
-    });
-    match assembly {
-        Err(refusal) => {
-            file.short(refusal.number as usize);
-            file.short(refusal.place as usize);
-        }
+    let counts = judged.as_ref().map_or(Counts::default(), Assembled::counts);
+    counts.numbers().iter().for_each(|&count| file.short(count));
+    match assemble(case, judged, &lengths) {
+        Err(refusal) => refused(file, &refusal),
         Ok(out) => {
-            file.short(0);
-            file.short(0);
-            file.indices(&out.row);
-            file.indices(&out.col);
-            file.floats(&out.val);
-            file.floats(&out.b);
-            out.cones.kinds.iter().for_each(|&kind| file.byte(kind));
-            file.indices(&out.cones.dims);
-            file.floats(&out.q_object);
+            accepted(file);
+            contents(file, &out);
         }
     }
 }
 
+fn accepted(file: &mut File) {
+    file.short(0);
+    file.short(0);
+}
+
+fn refused(file: &mut File, refusal: &Refusal) {
+    file.short(refusal.number as usize);
+    file.short(refusal.place as usize);
+}
+
+/// What the buffers hold after acceptance.
+fn contents(file: &mut File, out: &Assembled) {
+    file.indices(&out.row);
+    file.indices(&out.col);
+    file.floats(&out.val);
+    file.floats(&out.b);
+    out.cones.kinds.iter().for_each(|&kind| file.byte(kind));
+    file.indices(&out.cones.dims);
+    file.floats(&out.q_object);
+    file.longs(&out.index);
+}
+
+/// The program that replays the list takes fewer bytes than this.
+const TOO_LONG: usize = 65_536;
+
 /// Writes the file, or compares it where that is asked for.
 fn write_or_check(path: &str, bytes: &[u8], check: bool) -> Result<(), String> {
+    if bytes.len() >= TOO_LONG {
+        return Err(format!("the list has {} bytes", bytes.len()));
+    }
     let told = |fault: std::io::Error| format!("{path}: {fault}");
     if !check {
         return fs::write(path, bytes).map_err(told);

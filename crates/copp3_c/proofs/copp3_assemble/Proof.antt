@@ -5,7 +5,7 @@ use Rattle.copp3_c.proofs.copp3_assemble.Tie as tie
 
 -- the call of `assemble`, whose .kept says that it keeps the buffers' lengths; twenty parameters stand before them
 abbrev called : tie.After-answer-record2 → tie.After-assemble
-called c = c .before .before .before .before .before .before .before .before .before .before .before .before .before .before .before
+called c = c .before .before .before .before .before .before .before .before .before .before .before .before .before .before .before .before .before
 
 returns : tie.Need-returns
 returns c = assembly-refused _ (c .before .before .before .before .kind-check .ensures) _ (c .before .before .known .given .1) (c .answer-record .ensures)
@@ -13,7 +13,7 @@ returns c = assembly-refused _ (c .before .before .before .before .kind-check .e
 returns-2 : tie.Need-returns-2
 returns-2 c =
     let d = called c in
-    assembly-told _ (d .before .before .before .before .before .before .before .before .before .before .before .kind-check .ensures) (d .assemble .result) _ _ _ (d .before .before .before .before .before .before .before .before .before .enum-told .given .1) (d .before .before .before .before .before .before .before .before .objectives-of .ensures) (d .assemble .ensures)
+    assembly-told _ (d .before .before .before .before .before .before .before .before .before .before .before .before .kind-check .ensures) (d .assemble .result) _ _ _ (d .before .before .before .before .before .before .before .before .before .before .enum-told .given .1) (d .before .before .before .before .before .before .before .before .before .objectives-of .ensures) (d .assemble .ensures)
     (c .answer-record2 .ensures)
 
 pub copp3-assemble-spec : {M : Type 1} → statement M
@@ -35,4 +35,5 @@ copp3-assemble-spec =
     (λ c. called c .assemble .kept .1 .1 .1 .1 .1 .1 .1 .1 .1 .1 .1 .1 .1 .1 .1 .1 .1 .1 .1 .1 .1 .1 .1 .1 .0)
     (λ c. called c .assemble .kept .1 .1 .1 .1 .1 .1 .1 .1 .1 .1 .1 .1 .1 .1 .1 .1 .1 .1 .1 .1 .1 .1 .1 .1 .1 .0)
     (λ c. called c .assemble .kept .1 .1 .1 .1 .1 .1 .1 .1 .1 .1 .1 .1 .1 .1 .1 .1 .1 .1 .1 .1 .1 .1 .1 .1 .1 .1 .0)
+    (λ c. called c .assemble .kept .1 .1 .1 .1 .1 .1 .1 .1 .1 .1 .1 .1 .1 .1 .1 .1 .1 .1 .1 .1 .1 .1 .1 .1 .1 .1 .1 .0)
     returns-2)

@@ -6,10 +6,10 @@ use Rattle.replay.proofs.replay.Statement.{statement}
 use Rattle.replay.proofs.replay.Tie as tie
 
 abbrev Inv-loop : tie.InvT-loop
-Inv-loop s tally₀ at₀ tally at = Unit {0}
+Inv-loop s tallyStart at₀ tally at = Unit {0}
 
 abbrev μ-loop : tie.MeasureT-loop
-μ-loop s tally₀ at₀ tally at = length s - at
+μ-loop s tallyStart at₀ tally at = length s - at
 
 pub replay-spec : {M : Type 1} → statement M
 replay-spec =

@@ -1,4 +1,4 @@
--- `replay_list::case::assembly_agrees` is safe: each part that is lent lies within its 128 places.
+-- `replay_list::case::assembly_agrees` is safe: each part that is lent lies within its places.
 use borrow.Author.Needs.{needs}
 use Rattle.replay_list.proofs.Laws.{counted}
 use Rattle.replay_list.proofs.case.assembly_agrees.Statement.{statement}
@@ -24,6 +24,9 @@ slice-aggregate-assemble-6 c = counted _ _ (c .before .lent-at6 .ensures)
 
 slice-aggregate-assemble-7 : tie.Need-slice-aggregate-assemble-7
 slice-aggregate-assemble-7 c = counted _ _ (c .before .lent-at7 .ensures)
+
+slice-aggregate-assemble-8 : tie.Need-slice-aggregate-assemble-8
+slice-aggregate-assemble-8 c = counted _ _ (c .before .index-lent .ensures)
 
 pub assembly-agrees-spec : {M : Type 1} → statement M
 assembly-agrees-spec =
@@ -51,8 +54,11 @@ assembly-agrees-spec =
     (λ c. search needs)
     slice-aggregate-assemble-7
     (λ c κs. tt)
+    (λ c. search needs)
+    slice-aggregate-assemble-8
     (λ c κs. tt)
     (λ c κs. tt)
-    (λ c. tt)
+    (λ c κs. tt)
+    (λ c κs. tt)
     (λ c κs. tt)
     (λ c. tt))
