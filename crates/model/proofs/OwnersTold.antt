@@ -1,43 +1,49 @@
 -- Request 6: of any index, the answer is the lowest owner whose range holds the row or column; by a problem's index, the one owner, and 29 where there is none.
 use Prim.Native.Nat.{ℕ, zero, suc, _+_, _*_, _≤_, _<_}
 use native.Mathlib.Nat.{not-suc-le-zero, le-of-suc-le-suc}
-use native.Mathlib.Decide.{ℕ-discrete}
 use native.Mathlib.Omega.{arith}
 use mathlib.Core.Path.{_≡_, refl, ap, ap₂, _∙_}
-use mathlib.Core.Bool.{Bool, true, false, _&&_, false≢true}
+use mathlib.Core.Bool.{Bool, true, false, cond, _&&_}
 use mathlib.Core.List.{List, [], _∷_, _++_}
 use lib.ListN.{length, getD, length-append, List·getD-append}
 use lib.Seq.{getD-append-add}
 use lib.Dec.{ltb, leb, lit<}
 use borrow.Author.Tests.{ltb-true, leb-true, lt-ltb, le-leb, le-ltb}
 use Rattle.model.specs.Lists.{joined}
+use Rattle.model.specs.Verdicts.{_then_, refuse, lowest, itself}
 use Rattle.model.specs.Problem.{Problem, objectives, n}
 use Rattle.model.specs.Assembled.{rightSide, cost}
+use Rattle.model.specs.Answers.{Told}
 use Rattle.model.specs.Owners.{Owner, owners, eight, index, indexPlaces}
 use Rattle.model.specs.OwnerAnswers.{ownedBy, noOwner, inRange, within, lowestOwner, ownerOf, ownerOfRow, ownerOfColumn}
 use Rattle.model.specs.declared.FourCounts.{FourCounts}
-use Rattle.model.proofs.Room.{First, later}
+use Rattle.model.specs.declared.Verdict.{Verdict}
+use Rattle.model.specs.declared.Verdict.the-variants.{Accepted, Refused}
+use Rattle.model.proofs.Passes.{both}
+use Rattle.model.proofs.Room.{First, lowest-none, lowest-first}
 use Rattle.model.proofs.Owned.{none, In, OneOwner, owned, index-length}
 
 -- ---- any index
 
--- if it has its places: the first owner at which the test passes, or 29
-module _ (test : ℕ → Bool) where
-  lowest-first : (k c i : ℕ) → i < k + c → First test k i → lowestOwner test k c ≡ ownedBy i
-  unfolding lowestOwner
-  lowest-first k zero i l f = absurd (omega arith)
-  lowest-first k (suc c) i l f = go (λ a b. lowest-first (suc k) c i a b) (ℕ-discrete k i)
-    where
-      go : (i < suc k + c → First test (suc k) i → lowestOwner test (suc k) c ≡ ownedBy i) → Dec (k ≡ i) → lowestOwner test k (suc c) ≡ ownedBy i
-      go next (yes q) = simp (q, f .passes)
-      go next (no q) = simp (f .earlier k (omega arith) (omega arith)) (next (omega arith) (later f (omega arith)))
+-- what `lowest` finds, as an owner, so that its laws (Room.antt) are those of the lowest owner
+abbrev told : Verdict → Told
+told Accepted = noOwner 29
+told (Refused r k) = ownedBy k
 
-  lowest-none : (k c : ℕ) → ((i : ℕ) → k ≤ i → i < k + c → test i ≡ false) → lowestOwner test k c ≡ noOwner 29
-  unfolding lowestOwner
-  lowest-none k zero h = refl
-  lowest-none k (suc c) h = simp (h k (omega arith) (omega arith)) (lowest-none (suc k) c (λ i a b. h i (omega arith) (omega arith)))
+as-lowest : (test : ℕ → Bool) (k c : ℕ) → lowestOwner test k c ≡ told (lowest 29 itself test k c)
+unfolding lowestOwner lowest refuse _then_
+as-lowest test k zero = refl
+as-lowest test k (suc c) = go (test k) (as-lowest test (suc k) c)
+  where
+    go : (b : Bool) → lowestOwner test (suc k) c ≡ told (lowest 29 itself test (suc k) c)
+        → cond b (ownedBy k) (lowestOwner test (suc k) c) ≡ told (refuse 29 k b then lowest 29 itself test (suc k) c)
+    go true rest = refl
+    go false rest = rest
 
 module _ (f : ℕ) (index : List ℕ) (objectives r : ℕ) where
+  abbrev test : ℕ → Bool
+  test = within index f r
+
   -- "too short a one is 28 first"
   pub too-short : length index < indexPlaces objectives → ownerOf f index objectives r ≡ noOwner 28
   unfolding ownerOf
@@ -46,12 +52,12 @@ module _ (f : ℕ) (index : List ℕ) (objectives r : ℕ) where
   -- "of several ranges that hold the row or column the lowest owner counts"
   pub lowest-counts : indexPlaces objectives ≤ length index → (i : ℕ) → i < objectives + 2 → First (within index f r) 0 i → ownerOf f index objectives r ≡ ownedBy i
   unfolding ownerOf
-  lowest-counts h i l t = rw (le-ltb (length index) (indexPlaces objectives) h) (lowest-first (within index f r) 0 (objectives + 2) i (omega arith) t)
+  lowest-counts h i l t = rw (le-ltb (length index) (indexPlaces objectives) h) (as-lowest test 0 (objectives + 2) ∙ ap told (lowest-first test 29 itself 0 (objectives + 2) i (omega arith) t))
 
   -- "a row or column that isn't covered is 29"
   pub not-covered : indexPlaces objectives ≤ length index → ((i : ℕ) → i < objectives + 2 → within index f r i ≡ false) → ownerOf f index objectives r ≡ noOwner 29
   unfolding ownerOf
-  not-covered h t = rw (le-ltb (length index) (indexPlaces objectives) h) (lowest-none (within index f r) 0 (objectives + 2) (λ i a b. t i (omega arith)))
+  not-covered h t = rw (le-ltb (length index) (indexPlaces objectives) h) (as-lowest test 0 (objectives + 2) ∙ ap told (lowest-none test 29 itself 0 (objectives + 2) (λ i a b. t i (omega arith))))
 
 -- ---- the index of a problem
 
@@ -69,12 +75,7 @@ index-number (o ∷ os) rest (suc i) f l h =
 
 range-in : (a b r : ℕ) → inRange a b r ≡ true → (a ≤ r) × (r < a + b)
 unfolding inRange
-range-in a b r h = go (leb a r) (ltb r (a + b)) refl refl h
-  where
-    go : (s t : Bool) → leb a r ≡ s → ltb r (a + b) ≡ t → (s && t) ≡ true → (a ≤ r) × (r < a + b)
-    go true true x y h = (leb-true a r x, ltb-true r (a + b) y)
-    go true false x y h = absurd (false≢true h)
-    go false t x y h = absurd (false≢true h)
+range-in a b r h = let t = both (leb a r) (ltb r (a + b)) h in (leb-true a r (t .0), ltb-true r (a + b) (t .1))
 
 in-range : (a b r : ℕ) → a ≤ r → r < a + b → inRange a b r ≡ true
 unfolding inRange

@@ -31,10 +31,6 @@ pub record First (test : ℕ → Bool) (k i : ℕ) : Type 0 where
   pub passes : test i ≡ true
   pub earlier : (j : ℕ) → k ≤ j → j < i → test j ≡ false
 
--- from k on, and it is not k
-pub later : {test : ℕ → Bool} {k i : ℕ} → First test k i → suc k ≤ i → First test (suc k) i
-later f h = record { above = h; passes = f .passes; earlier = λ j a b. f .earlier j (omega arith) b }
-
 -- among c numbers from k on there is none, or a first one
 pub data Looked (test : ℕ → Bool) (k c : ℕ) : Type 0 where
   none : ((i : ℕ) → k ≤ i → i < k + c → test i ≡ false) → Looked test k c
@@ -73,7 +69,7 @@ module _ (test : ℕ → Bool) where
         go next (yes q) = simp (q, f .passes)
         go next (no q) =
             simp (f .earlier k (omega arith) (omega arith))
-            (next (omega arith) (later f (omega arith)))
+            (next (omega arith) (record { above = omega arith; passes = f .passes; earlier = λ j a b. f .earlier j (omega arith) b }))
 
 -- ---- the seven buffers
 
