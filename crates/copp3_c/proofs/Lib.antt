@@ -1,2 +1,4 @@
 mod Records
+mod KnownKinds
 mod Answered
+pub mod Demands

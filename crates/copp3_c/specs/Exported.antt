@@ -4,10 +4,12 @@ use mathlib.Core.Bool.{cond}
 use mathlib.Core.List.{List, [], _∷_}
 use lib.Dec.{eqb, ltb}
 use lib.Ieee.{nan}
-use lib.ListN.{getD, length}
+use lib.ListN.{getD}
 use Rattle.model.specs.Verdicts.{lowest, itself}
 use Rattle.model.specs.Problem.{Problem}
+use Rattle.model.specs.Counts.{fourCounts}
 use Rattle.model.specs.Answers.{Told, sizing, Buffers, Result, assembly}
+use Rattle.model.specs.declared.FourCounts.{FourCounts}
 use Rattle.model.specs.declared.Verdict.{Verdict}
 use Rattle.model.specs.declared.Verdict.the-variants.{Accepted, Refused}
 use Rattle.model.specs.declared.Objective.{Objective}
@@ -31,12 +33,20 @@ blank = record { kind = 0; weight = nan; start = 0; len = 0; start2 = 0; len2 = 
 unfoldable pub kindRefusal : ℕ → List ObjectiveRecord → Verdict
 kindRefusal count items = lowest 40 itself (λ i. ltb 3 (getD items i blank .kind)) 0 (min count 16)
 
--- a refusal has one value, its place, and no counts; a success has the four counts and no place
+-- a refusal's number and place, and no counts
+abbrev pub refusedRecord : ℕ → ℕ → AnswerRecord
+refusedRecord r k = record { number = r; place = k; entries = 0; rows = 0; cones = 0; columns = 0 }
+
+-- a success: number 0, no place, the four counts
+abbrev pub countsRecord : FourCounts → AnswerRecord
+countsRecord t = record { number = 0; place = 0; entries = t .entries; rows = t .rows; cones = t .cones; columns = t .columns }
+
+-- the number tells: 0 is a success, whose values are the four counts, and any other a refusal, whose value is its place
 unfoldable pub answerRecord : Told → AnswerRecord
 answerRecord t =
-    cond (eqb (length (t .values)) 1)
-    (record { number = t .number; place = getD (t .values) 0 0; entries = 0; rows = 0; cones = 0; columns = 0 })
-    (record { number = t .number; place = 0; entries = getD (t .values) 0 0; rows = getD (t .values) 1 0; cones = getD (t .values) 2 0; columns = getD (t .values) 3 0 })
+    cond (eqb (t .number) 0)
+    (countsRecord (fourCounts (getD (t .values) 0 0) (getD (t .values) 1 0) (getD (t .values) 2 0) (getD (t .values) 3 0)))
+    (refusedRecord (t .number) (getD (t .values) 0 0))
 
 -- an owner, and place 0; or a refusal's number and place, and no owner
 unfoldable pub ownerRecord : Told → OwnerRecord
@@ -64,3 +74,10 @@ exported r b = record { answer = r; buffers = b }
 
 abbrev pub exportedAs : Result → Exported
 exportedAs x = exported (answerRecord (x .told)) (x .buffers)
+
+-- what `copp3_size` answers, of so many objectives in records, and what `copp3_assemble` answers and leaves
+abbrev pub sizedAs : ℕ → List ObjectiveRecord → Problem → AnswerRecord
+sizedAs count items p = answerRecord (sizingAfter (kindRefusal count items) p)
+
+abbrev pub assembledAs : ℕ → List ObjectiveRecord → Problem → Buffers → Exported
+assembledAs count items p b = exportedAs (assemblyAfter (kindRefusal count items) p b)

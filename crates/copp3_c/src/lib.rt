@@ -3,10 +3,11 @@
 ghost use mathlib.Core.Path.{_≡_};
 ghost use mathlib.Core.List.{map};
 ghost use Prim.Native.Nat.{ℕ, min, _+_, _^_, _<_};
-ghost use Rattle.copp3_c.specs.Exported.{objectiveOf, kindRefusal, answerRecord, ownerRecord, sizingAfter, assemblyAfter, exported, exportedAs};
+ghost use Rattle.copp3_c.specs.Exported.{objectiveOf, kindRefusal, answerRecord, ownerRecord, sizedAs, exported, assembledAs};
 ghost use Rattle.model.specs.Problem.{problem};
 ghost use Rattle.model.specs.Answers.{told};
 ghost use Rattle.model.specs.OwnerAnswers.{toldOwner, ownerOfRow, ownerOfColumn};
+ghost use Rattle.model.specs.declared.Answer.the-variants.{Refusal};
 ghost use Rattle.model.specs.declared.OwnerAnswer.the-variants.{ObjectiveNumber};
 ghost use Rattle.passes.specs.Program.{buffers};
 use model::Answer;
@@ -116,7 +117,9 @@ fn kind_check(items: [ObjectiveRecord; 16], count: usize) -> Verdict
     Verdict::Accepted
 }
 
+// A refusal's number is above 0, which tells of a success.
 fn answer_record(a: Answer) -> AnswerRecord
+    requires { ⌜ ((r k : ℕ) → a ≡ Refusal r k → 0 < r) ⌝ }
     ensures { λ r. ⌜ r ≡ answerRecord (told a) ⌝ }
 {
     match a {
@@ -201,7 +204,7 @@ pub extern "C" fn copp3_size(
     end_roots: &[f64],
     pool: &[f64],
 ) -> AnswerRecord
-    ensures { λ r. ⌜ r ≡ answerRecord (sizingAfter (kindRefusal (job .count) (records .items)) (problem job (map objectiveOf (records .items)) (now (grid .entry)) (now («acc_rows» .entry)) (now («jerk_rows» .entry)) (now (amax .entry)) (now («acc_a» .entry)) (now («acc_b» .entry)) (now («acc_max» .entry)) (now («jerk_a» .entry)) (now («jerk_b» .entry)) (now («jerk_c» .entry)) (now («jerk_max» .entry)) (now (thermal .entry)) (now («torque_a» .entry)) (now («torque_b» .entry)) (now («torque_g» .entry)) (now («start_roots» .entry)) (now («end_roots» .entry)) (now (pool .entry)))) ⌝ }
+    ensures { λ r. ⌜ r ≡ sizedAs (job .count) (records .items) (problem job (map objectiveOf (records .items)) (now (grid .entry)) (now («acc_rows» .entry)) (now («jerk_rows» .entry)) (now (amax .entry)) (now («acc_a» .entry)) (now («acc_b» .entry)) (now («acc_max» .entry)) (now («jerk_a» .entry)) (now («jerk_b» .entry)) (now («jerk_c» .entry)) (now («jerk_max» .entry)) (now (thermal .entry)) (now («torque_a» .entry)) (now («torque_b» .entry)) (now («torque_g» .entry)) (now («start_roots» .entry)) (now («end_roots» .entry)) (now (pool .entry))) ⌝ }
 {
     let items = records.items;
     let known = kind_check(items, job.count);
@@ -265,7 +268,7 @@ pub extern "C" fn copp3_assemble(
     cost: &mut [f64],
     index: &mut [usize],
 ) -> AnswerRecord
-    ensures { λ r. ⌜ exported r (buffers (now (rows .exit)) (now (columns .exit)) (now (values .exit)) (now (right .exit)) (now (kinds .exit)) (now (dimensions .exit)) (now (cost .exit)) (now (index .exit))) ≡ exportedAs (assemblyAfter (kindRefusal (job .count) (records .items)) (problem job (map objectiveOf (records .items)) (now (grid .entry)) (now («acc_rows» .entry)) (now («jerk_rows» .entry)) (now (amax .entry)) (now («acc_a» .entry)) (now («acc_b» .entry)) (now («acc_max» .entry)) (now («jerk_a» .entry)) (now («jerk_b» .entry)) (now («jerk_c» .entry)) (now («jerk_max» .entry)) (now (thermal .entry)) (now («torque_a» .entry)) (now («torque_b» .entry)) (now («torque_g» .entry)) (now («start_roots» .entry)) (now («end_roots» .entry)) (now (pool .entry))) (buffers (now (rows .entry)) (now (columns .entry)) (now (values .entry)) (now (right .entry)) (now (kinds .entry)) (now (dimensions .entry)) (now (cost .entry)) (now (index .entry)))) ⌝ }
+    ensures { λ r. ⌜ exported r (buffers (now (rows .exit)) (now (columns .exit)) (now (values .exit)) (now (right .exit)) (now (kinds .exit)) (now (dimensions .exit)) (now (cost .exit)) (now (index .exit))) ≡ assembledAs (job .count) (records .items) (problem job (map objectiveOf (records .items)) (now (grid .entry)) (now («acc_rows» .entry)) (now («jerk_rows» .entry)) (now (amax .entry)) (now («acc_a» .entry)) (now («acc_b» .entry)) (now («acc_max» .entry)) (now («jerk_a» .entry)) (now («jerk_b» .entry)) (now («jerk_c» .entry)) (now («jerk_max» .entry)) (now (thermal .entry)) (now («torque_a» .entry)) (now («torque_b» .entry)) (now («torque_g» .entry)) (now («start_roots» .entry)) (now («end_roots» .entry)) (now (pool .entry))) (buffers (now (rows .entry)) (now (columns .entry)) (now (values .entry)) (now (right .entry)) (now (kinds .entry)) (now (dimensions .entry)) (now (cost .entry)) (now (index .entry))) ⌝ }
 {
     let items = records.items;
     let known = kind_check(items, job.count);

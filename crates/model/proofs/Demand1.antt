@@ -5,20 +5,27 @@ use mathlib.Core.Path.{_≡_, refl, ap}
 use mathlib.Core.Logic.{_↔_, _≢_}
 use mathlib.Core.Bool.{Bool, true, false}
 use mathlib.Core.List.{List, [], _∷_}
-use lib.ListN.{length}
+use lib.ListN.{length, length-map}
+use lib.Ieee.{nan}
 use lib.Dec.{ltb}
 use borrow.Author.Tests.{ltb-true}
+use Rattle.model.specs.Numbers.{at, finite}
 use Rattle.model.specs.Problem.{Problem, n}
 use Rattle.model.specs.Verdicts.{_then_, refuse, lowest}
 use Rattle.model.specs.Refusals.{refusal, gridRefusal, setupRefusal, tablesRefusal, boundsRefusal, objectivesRefusal, listsRefusal, scalesRefusal, listRefusal, table, tableIf}
+use Rattle.model.specs.Assembled.{values}
 use Rattle.model.specs.Counts.{counts}
 use Rattle.model.specs.Answers.{Told, outcome, sizing, Buffers, lengths, roomRefusal, indexRefusal, finiteRefusal, result, assembly}
+use Rattle.model.specs.declared.FourCounts.{FourCounts}
 use Rattle.model.specs.declared.Objective.{Objective}
 use Rattle.model.specs.declared.Objective.the-variants.{Time, ThermalEnergy, TotalVariationTorque, Linear}
 use Rattle.model.specs.declared.Verdict.{Verdict}
 use Rattle.model.specs.declared.Verdict.the-variants.{Accepted, Refused}
 use Rattle.model.proofs.Passes.{then-passes}
-use Rattle.model.proofs.Demand3.{Acceptable, demand3}
+use Rattle.model.proofs.Finite.{Finite, finite-lists}
+use Rattle.model.proofs.Program.{program}
+use Rattle.model.proofs.Written.{onto-all}
+use Rattle.model.proofs.Demand3.{Acceptable, accepted, all-finite, demand3}
 use Rattle.model.proofs.Room.{Enough, room-passes, HasIndex, index-passes}
 
 -- no refusal has the number 0, which tells of a success
@@ -116,3 +123,23 @@ module _ (p : Problem) (b : Buffers) where
   -- "Accepted: every other problem, with nothing tested beforehand by the caller"
   pub accepted-exactly : (assembly p b .told .number ≡ 0) ↔ (Acceptable p × Enough (counts p) b × HasIndex p b)
   accepted-exactly = (zero-only-then, zero-then)
+
+-- below the counts no number of values, right side or cost is infinite or NaN
+pub record FiniteBelow (t : FourCounts) (b : Buffers) : Type 0 where
+  pub values : (i : ℕ) → i < t .entries → finite (at (b .values) i) ≡ true
+  pub right : (i : ℕ) → i < t .rows → finite (at (b .right) i) ≡ true
+  pub cost : (i : ℕ) → i < t .columns → finite (at (b .cost) i) ≡ true
+
+-- "any problem with a number to be written that isn't finite" is refused: after a success no such number stands in a buffer
+pub finite-written : (p : Problem) (b : Buffers) → assembly p b .told .number ≡ 0 → FiniteBelow (counts p) (assembly p b .buffers)
+unfolding values
+finite-written p b e =
+    let h = zero-only-then p b e in
+    let f = program p (accepted p (h .0)) in
+    let l = finite-lists p (all-finite p (h .0)) in
+    let w = demand3 p (h .0) .holds b (h .2) (h .1) in
+    record {
+      values = λ i lt. onto-all Finite (w .values) (simp length-map (f .entries-counted)) (l .values) i nan lt;
+      right = λ i lt. onto-all Finite (w .right) (f .rows-counted) (l .right) i nan lt;
+      cost = λ i lt. onto-all Finite (w .cost) (f .columns-counted) (l .cost) i nan lt;
+    }

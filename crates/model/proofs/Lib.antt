@@ -16,6 +16,8 @@ pub mod Usable
 pub mod Fits
 pub mod Program
 pub mod Room
+pub mod ConeKinds
+pub mod Finite
 pub mod Written
 pub mod Demand1
 pub mod Demand3

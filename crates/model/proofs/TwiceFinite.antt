@@ -2,32 +2,23 @@
 use Prim.Native.Nat.{ℕ, _+_, _≤_, _<_}
 use native.Mathlib.Omega.{arith}
 use mathlib.Core.Path.{_≡_}
-use mathlib.Core.Bool.{true, not}
-use mathlib.Core.List.{List, [], _∷_, map}
-use lib.Ieee.{Float}
-use borrow.Author.Tests.{not-false}
+use mathlib.Core.Bool.{true}
+use mathlib.Core.List.{List, [], _∷_}
 use Rattle.model.specs.Numbers.{finite, _⊗_, −2}
 use Rattle.model.specs.Lists.{list, joined}
 use Rattle.model.specs.Problem.{Problem, Path, stop, spacing}
 use Rattle.model.specs.Program.{Cell, Band, Cone, Block, Entry, entry, entriesFrom, bandEntries}
 use Rattle.model.specs.Standard.{intervalRows, firstOrder, inequalities, standard}
-use Rattle.model.specs.Assembled.{blocks, cones, bands, entries, values, allFinite}
-use Rattle.model.specs.Answers.{everyFinite, finiteRefusal}
+use Rattle.model.specs.Assembled.{blocks, cones, bands, entries, values}
+use Rattle.model.specs.Answers.{finiteRefusal}
 use Rattle.model.specs.declared.Verdict.the-variants.{Accepted}
 use Rattle.model.proofs.All.{All, all-append, all-list, all-over, all-joined}
 use Rattle.model.proofs.Sizes.{Sizes}
-use Rattle.model.proofs.Passes.{both, refuse-passes}
+use Rattle.model.proofs.Finite.{Finite, all-map, finite-lists}
 
 -- every −2·h that an interval row holds is finite
 abbrev pub TwiceFinite : Path → Type 0
 TwiceFinite q = (k : ℕ) → q .N0 ≤ k → k < stop q → finite (−2 ⊗ spacing q k) ≡ true
-
-abbrev Finite : Float → Type 0
-Finite x = finite x ≡ true
-
-all-finite : {A : Type 0} (f : A → Float) (l : List A) → allFinite (map f l) ≡ true → All (λ x. Finite (f x)) l
-all-finite f [] e = tt
-all-finite f (x ∷ l) e = let h = both (finite (f x)) (allFinite (map f l)) e in (h .0, all-finite f l (h .1))
 
 -- each number of a band
 abbrev FiniteBand : Band → Type 0
@@ -47,16 +38,10 @@ bands-finite r (b ∷ bs) e =
     (columns-finite (b .columns) (b .height) r (g .0), bands-finite (r + b .height) bs (g .1))
 
 module _ (p : Problem) where
-  values-finite : finiteRefusal p ≡ Accepted → allFinite (values p) ≡ true
-  unfolding finiteRefusal
-  values-finite e =
-      let h = not-false _ ((refuse-passes 20 0 (not (everyFinite p))) .0 e) in
-      (both _ _ ((both _ _ h) .0)) .0
-
   pub accepted-twice-finite : Sizes (p .path) → finiteRefusal p ≡ Accepted → TwiceFinite (p .path)
   unfolding values entries bands cones blocks standard inequalities firstOrder intervalRows
   accepted-twice-finite l e k u v =
-      let all = bands-finite 0 (bands p) (all-finite (λ (e : Entry). e .value) (entries p) (values-finite e)) in
+      let all = bands-finite 0 (bands p) (all-map (λ (e : Entry). e .value) (entries p) (finite-lists p e .values)) in
       let each = (all-joined (λ (c : Cone). All FiniteBand (c .bands)) (λ (b : Block). b .cones) (blocks p)) .0 ((all-joined FiniteBand (λ (c : Cone). c .bands) (cones p)) .0 all) in
       let rows = simp (all-append, all-over) at (each .0 .1 .0) in
       (rows .0 .0 .1 k (omega arith) (omega arith)) .1 .0 .1 .0 0 (omega arith)

@@ -14,7 +14,9 @@ use Rattle.model.specs.Counts.{counts}
 use Rattle.model.specs.Owners.{index, indexPlaces}
 use Rattle.model.specs.Answers.{Buffers, onto, written}
 use Rattle.model.specs.declared.FourCounts.{FourCounts}
+use Rattle.model.proofs.All.{All, all-at}
 use Rattle.model.proofs.InCone.{OneCone}
+use Rattle.model.proofs.ConeKinds.{kinds-known}
 use Rattle.model.proofs.Room.{Enough, HasIndex}
 use Rattle.model.proofs.Owned.{index-length}
 use Rattle.model.proofs.Program.{Program}
@@ -35,8 +37,12 @@ module _ {A : Type 0} where
       }
 
   -- element i of the buffer is element i of the list
-  onto-at : (c : ℕ) (list old new : List A) → Onto c list old new → (i : ℕ) (d : A) → i < c → getD new i d ≡ getD list i d
+  pub onto-at : (c : ℕ) (list old new : List A) → Onto c list old new → (i : ℕ) (d : A) → i < c → getD new i d ≡ getD list i d
   onto-at c list old new o i d lt = sym (getD-take c new i d lt) ∙ ap (λ (l : List A). getD l i d) (o .first)
+
+  -- what holds of each element of the list holds of the buffer's first c
+  pub onto-all : (P : A → Type 0) {c : ℕ} {list old new : List A} → Onto c list old new → length list ≡ c → All P list → (i : ℕ) (d : A) → i < c → P (getD new i d)
+  onto-all P {c} {list} {old} {new} o e h i d lt = rw (onto-at c list old new o i d lt) (all-at P list i d h (omega arith))
 
 -- buffers 0 to 6, and the index
 pub record Writes (p : Problem) (old new : Buffers) : Type 0 where
@@ -55,6 +61,8 @@ pub record Formed (t : FourCounts) (b : Buffers) : Type 0 where
   pub once : (i j : ℕ) → i < t .entries → j < t .entries → getD (b .rows) i 0 ≡ getD (b .rows) j 0 → getD (b .columns) i 0 ≡ getD (b .columns) j 0 → i ≡ j
   pub dimensions : total (take (t .cones) (b .dimensions)) ≡ t .rows
   pub one-cone : (r : ℕ) → r < t .rows → OneCone (take (t .cones) (b .dimensions)) r
+  -- "Cone kinds are 0 zero, 1 nonnegative, 2 second-order."
+  pub kinds : (i : ℕ) → i < t .cones → getD (b .kinds) i 0 < 3
 
 module _ (p : Problem) (f : Program p) where
   pub writes : (b : Buffers) → HasIndex p b → Enough (counts p) b → Writes p b (written p b)
@@ -81,7 +89,7 @@ module _ (p : Problem) (f : Program p) where
     entry-at f o i lt = onto-at _ _ _ _ o i (f past) lt ∙ List·getD-map f (entries p) i past
 
     pub formed : Formed (counts p) new
-    unfolding rowNumbers columnNumbers
+    unfolding rowNumbers columnNumbers coneKinds
     formed =
         let row-at = entry-at (λ e. e .row) (w .rows) in
         let column-at = entry-at (λ e. e .column) (w .columns) in
@@ -90,4 +98,5 @@ module _ (p : Problem) (f : Program p) where
           once = λ i j x y r c. f .once i j past (omega arith) (omega arith) (cc (row-at i x, row-at j y)) (cc (column-at i x, column-at j y));
           dimensions = rw (w .dimensions .first) (f .dimensions ∙ f .rows-counted);
           one-cone = λ r lt. rw (w .dimensions .first) (f .one-cone r (omega arith));
+          kinds = λ i lt. onto-all (λ (k : ℕ). k < 3) (w .kinds) (simp length-map (f .cones-counted)) (kinds-known p) i 0 lt;
         }

@@ -1,12 +1,12 @@
-use mathlib.Core.Path.{refl}
+use mathlib.Core.Path.{refl, sym}
 use borrow.Author.Needs.{needs}
 use Rattle.copp3_c.specs.Exported.{answerRecord}
+use Rattle.copp3_c.proofs.Answered.{refused-record}
 use Rattle.copp3_c.proofs.answer_record.Statement.{statement}
 use Rattle.copp3_c.proofs.answer_record.Tie as tie
 
 returns : tie.Need-returns
-unfolding answerRecord
-returns c = rw (c .before .a .given .1) refl
+returns c = rw (c .before .a .given .1) (sym (refused-record _ _ (c .before .before .before .pre _ _ (c .before .a .given .1))))
 
 returns-2 : tie.Need-returns-2
 unfolding answerRecord
