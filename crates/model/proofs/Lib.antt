@@ -52,3 +52,7 @@ pub mod OwnersTold
 pub mod Reweighed
 pub mod IndexFits
 pub mod Request6
+pub mod Cut
+pub mod UnreadRefusals
+pub mod UnreadBlocks
+pub mod Unread

@@ -1,6 +1,7 @@
 -- The library's names, and the declared types of src/lib.rt, that the definitions use.
 pub use Prim.Native.Nat.{ℕ, zero, suc, _+_, _-_, _*_, _/_, _^_, _≤_, _<_, max, min}
 pub use mathlib.Core.Path.{_≡_}
+pub use mathlib.Core.Logic.{_⊎_}
 pub use mathlib.Core.Bool.{Bool, true, false, cond, not, _&&_, _||_}
 pub use mathlib.Core.List.{List, [], _∷_, _++_, map}
 pub use lib.ListN.{length, getD, take, drop, set, replicate}

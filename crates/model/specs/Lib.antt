@@ -16,3 +16,4 @@ pub mod Reweighed
 pub mod Conic
 pub mod Meaning
 pub mod Ledger
+pub mod Used
