@@ -157,8 +157,8 @@ fn junk(rng: &mut Rng) -> Record {
     }
 }
 
-/// Writes what the kind uses, and leaves the junk in the rest.
-fn write(record: &mut Record, objective: &Objective) {
+/// Writes what the kind uses, and leaves the rest as it is.
+pub fn write(record: &mut Record, objective: &Objective) {
     let (kind, weight) = match *objective {
         Objective::Time(weight) => (0, weight),
         Objective::ThermalEnergy(weight, _) => (1, weight),

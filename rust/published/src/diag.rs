@@ -1,6 +1,7 @@
 //! Stand-in for copp's messages and for the checks that weren't published with the rest.
 
 use crate::solver::{SolverError, SolverStatus};
+use std::cell::RefCell;
 
 #[derive(Debug)]
 pub enum CoppError {
@@ -17,7 +18,7 @@ pub enum Verbosity {
     Trace,
 }
 
-/// Says nothing.
+/// Says nothing, unless told otherwise.
 pub trait Verboser {
     fn is_enabled(&self, _: Verbosity) -> bool {
         false
@@ -31,7 +32,7 @@ pub trait Verboser {
 }
 
 macro_rules! verbosers {
-    ($($name:ident)*) => {$(
+    ($($name:ident $body:tt)*) => {$(
         #[derive(Default)]
         pub struct $name;
 
@@ -41,11 +42,33 @@ macro_rules! verbosers {
             }
         }
 
-        impl Verboser for $name {}
+        impl Verboser for $name $body
     )*};
 }
 
-verbosers! { SilentVerboser SummaryVerboser DebugVerboser TraceVerboser }
+verbosers! {
+    SilentVerboser {}
+    SummaryVerboser {}
+    DebugVerboser {
+        fn is_enabled(&self, level: Verbosity) -> bool {
+            matches!(level, Verbosity::Debug)
+        }
+    }
+    TraceVerboser {}
+}
+
+thread_local! {
+    static MESSAGES: RefCell<Vec<String>> = RefCell::default();
+}
+
+pub fn keep_message(message: String) {
+    MESSAGES.with_borrow_mut(|messages| messages.push(message));
+}
+
+/// The messages of this thread since they were last taken.
+pub fn take_messages() -> Vec<String> {
+    MESSAGES.take()
+}
 
 pub fn format_duration_human(ticks: u64) -> u64 {
     ticks
@@ -61,12 +84,11 @@ pub fn check_s_interval_valid(_: &str, _: usize, _: usize) -> Result<(), CoppErr
     Ok(())
 }
 
-/// Messages are not taken.
+/// Keeps the message; only where a verboser is enabled is there one.
 #[macro_export]
 macro_rules! verbosity_log {
-    ($verbosity:expr, $($message:tt)*) => {
-        if false {
-            let _ = ($verbosity, format!($($message)*));
-        }
-    };
+    ($verbosity:expr, $($message:tt)*) => {{
+        let _ = $verbosity;
+        $crate::diag::keep_message(format!($($message)*));
+    }};
 }

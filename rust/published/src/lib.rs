@@ -1,7 +1,8 @@
 //! The published Rust itself, to hold the reference against.
 //!
 //! Under `copp`, `copp3_socp.rs`, `clarabel_constraints.rs`, `objectives.rs` and
-//! the excerpt of `formulation.rs` (`get_weight_a_topp3`) are those of
+//! the excerpts of `formulation.rs` (`get_weight_a_topp3`; for the differences
+//! `check_num_station_intervals` and `get_weight_a_copp3`) are those of
 //! TOPP-THU/copp f9a5f800ee, unchanged (MIT licence, see NOTICE). What they
 //! import is stood in for, as thinly as they allow: clarabel, nalgebra and
 //! itertools in `stand_ins`, the rest of copp around them, where every answer
@@ -13,6 +14,7 @@ extern crate self as clarabel;
 extern crate self as itertools;
 extern crate self as nalgebra;
 
+pub mod against;
 pub mod copp;
 pub mod diag;
 pub mod robot;
@@ -31,6 +33,19 @@ use robot::robot_core::Robot;
 ///
 /// The cube roots are its own; tables 14 and 15 are not read.
 pub fn published(problem: &Problem) -> Result<Given, diag::CoppError> {
+    run(problem, &copp::ClarabelOptions::default())
+}
+
+/// What it tells of its work where it is asked to (`Verbosity::Debug`).
+pub fn messages(problem: &Problem) -> Result<Vec<String>, diag::CoppError> {
+    let mut options = copp::ClarabelOptions::default();
+    options.telling = true;
+    diag::take_messages();
+    run(problem, &options)?;
+    Ok(diag::take_messages())
+}
+
+fn run(problem: &Problem, options: &copp::ClarabelOptions) -> Result<Given, diag::CoppError> {
     let part = |part: Part| &problem.pool[part.start..part.start + part.len];
     let objectives: Vec<CoppObjective> = problem.objectives[..problem.count]
         .iter()
@@ -59,6 +74,6 @@ pub fn published(problem: &Problem) -> Result<Given, diag::CoppError> {
         num_stationary: problem.num_stationary,
     };
     copp::copp3::formulation::lend_thermal_weights(problem.thermal);
-    copp3_socp_expert_with_info(&lent, &copp::ClarabelOptions::default())?;
+    copp3_socp_expert_with_info(&lent, options)?;
     Ok(solver::take_given())
 }

@@ -1,43 +1,42 @@
-//! The fixed list: ledger, shapes, floats, buffers and refusals.
+//! The fixed list: ledger, shapes, floats, buffers, refusals, worked problems, and cases that are
+//! wrong on purpose.
 
+use crate::case::Case;
+use crate::wrong;
 use problems::generate::shaped;
 use problems::rng::{Flavour, Rng};
 use reference::sample::{Sample, ledger};
 use reference::{Objective, Part};
-
-/// A problem, its group, and the buffers to lend.
-pub struct Case {
-    /// L ledger, S shapes, F floats, B buffers, R refusals.
-    pub group: u8,
-    pub sample: Sample,
-    /// An objective record with a kind of its own.
-    pub unknown: Option<(usize, u8)>,
-    /// Places more than needed in every buffer.
-    pub longer: usize,
-    /// Buffers with one place fewer; 7 is the index.
-    pub short: Vec<usize>,
-}
-
-fn case(group: u8, sample: Sample) -> Case {
-    Case {
-        group,
-        sample,
-        unknown: None,
-        longer: 0,
-        short: vec![],
-    }
-}
+use worked::answer;
 
 pub fn cases() -> Vec<Case> {
-    let mut cases: Vec<Case> = ledger()
+    let ledger: Vec<Case> = ledger()
         .into_iter()
-        .map(|(sample, _)| case(b'L', sample))
+        .map(|(sample, _)| Case::new(b'L', sample))
         .collect();
-    cases.extend(shapes());
-    cases.extend(floats());
-    cases.extend(buffers());
-    cases.extend(refusals());
-    cases
+    let buffers = buffers();
+    // The ledger's cases H and L, and one place too few for the cost.
+    let wrong = wrong::cases(&ledger[7], &ledger[11], &buffers[6]);
+    let groups = [
+        ledger,
+        shapes(),
+        floats(),
+        buffers,
+        refusals(),
+        worked_problems(),
+        wrong,
+    ];
+    groups.into_iter().flatten().collect()
+}
+
+/// The worked problems, once the published files are found to answer as the reference does.
+fn worked_problems() -> Vec<Case> {
+    let problems = worked::worked();
+    problems.iter().for_each(|problem| drop(answer(problem)));
+    problems
+        .into_iter()
+        .map(|problem| Case::new(b'P', problem.sample))
+        .collect()
 }
 
 /// Small random problems over the stationary counts; unread places hold anything.
@@ -54,7 +53,7 @@ fn shapes() -> Vec<Case> {
     let mut cases = vec![];
     for (i, (n, ends)) in ends.into_iter().enumerate() {
         let (d, count) = (1 + i % 2, 1 + i % 3);
-        cases.push(case(b'S', few_rows(&mut rng, n, ends, d, count)));
+        cases.push(Case::new(b'S', few_rows(&mut rng, n, ends, d, count)));
     }
     cases
 }
@@ -101,7 +100,7 @@ fn floats() -> Vec<Case> {
     let mut large = Sample::plain(2, (0, 0), 1).with_linear(1e200, &[1e100; 3], &[-1e107; 3]);
     large.grid = vec![-1e300, 1.0, 1e300];
     let samples = [all_four(), signed, close, jerk, large, overflowing()];
-    samples.into_iter().map(|s| case(b'F', s)).collect()
+    samples.into_iter().map(|s| Case::new(b'F', s)).collect()
 }
 
 /// Each buffer one place short, all longer, index and cost short, an index short where a
@@ -110,16 +109,16 @@ fn buffers() -> Vec<Case> {
     let plain = || Sample::plain(2, (0, 0), 1).with_time(1.0);
     let short = |sample: Sample, short: &[usize]| Case {
         short: short.to_vec(),
-        ..case(b'B', sample)
+        ..Case::new(b'B', sample)
     };
     let mut cases: Vec<Case> = (0..8).map(|buffer| short(plain(), &[buffer])).collect();
     cases.push(Case {
         longer: 3,
-        ..case(b'B', plain())
+        ..Case::new(b'B', plain())
     });
     cases.push(short(plain(), &[6, 7]));
     cases.push(short(overflowing(), &[7]));
-    cases.push(case(b'B', sixteen()));
+    cases.push(Case::new(b'B', sixteen()));
     cases
 }
 
@@ -143,7 +142,7 @@ fn changed(change: impl Fn(&mut Sample)) -> Case {
         .with_thermal(1.0, &[1.0])
         .with_time(1.0);
     change(&mut sample);
-    case(b'R', sample)
+    Case::new(b'R', sample)
 }
 
 fn refusals() -> Vec<Case> {

@@ -17,11 +17,17 @@ use crate::solver::{DefaultSettings, SolverStatus};
 #[derive(Default)]
 pub struct ClarabelOptions {
     settings: DefaultSettings,
+    /// Whether messages are kept.
+    pub telling: bool,
 }
 
 impl ClarabelOptions {
     pub fn verbosity(&self) -> Verbosity {
-        Verbosity::Silent
+        if self.telling {
+            Verbosity::Debug
+        } else {
+            Verbosity::Silent
+        }
     }
 
     pub fn clarabel_settings(&self) -> &DefaultSettings {

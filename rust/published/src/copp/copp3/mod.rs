@@ -1,5 +1,6 @@
 //! Third-order problems.
 
+pub mod builder;
 pub mod formulation;
 pub mod opt3;
 
