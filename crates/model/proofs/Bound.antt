@@ -19,7 +19,7 @@ use Rattle.model.proofs.Sizes.{Sizes}
 use Rattle.model.proofs.Counted.{counted}
 
 -- a part of a table sums up to no more than the table
-shift : (f : ℕ → ℕ) (k c : ℕ) → sumOver f (suc k) c ≡ sumOver (λ i. f (suc i)) k c
+pub shift : (f : ℕ → ℕ) (k c : ℕ) → sumOver f (suc k) c ≡ sumOver (λ i. f (suc i)) k c
 shift f k zero = refl
 shift f k (suc c) = ap (λ (x : ℕ). f (suc k) + x) (shift f (suc k) c)
 

@@ -10,6 +10,7 @@ pub mod Counted
 pub mod Whole
 pub mod InCone
 pub mod Bound
+pub mod Attained
 pub mod Passes
 pub mod Ready
 pub mod Usable
