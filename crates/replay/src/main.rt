@@ -1,5 +1,10 @@
-// Replays the list on standard input. For each group of cases it writes a line: the group's letter,
-// the number of cases, and in how many of them sizing and the assembly do as the list says.
+// Replays the list on standard input, of any length, in pieces. For each group of cases it writes a
+// line: the group's letter, the number of cases, and in how many of them sizing and the assembly do
+// as the list says. A case that the input's end cuts off, or that is longer than a piece, ends the
+// run with `cut off`.
+ghost use mathlib.Core.Path.{_≡_};
+ghost use Prim.Native.Nat.{_-_, _≤_};
+ghost use lib.ListN.{length, take, drop};
 
 // The group that is being counted.
 struct Tally {
@@ -8,7 +13,18 @@ struct Tally {
     agreeing: u64,
 }
 
+// The tally after a piece of the list, and the rest of the piece, a case that is not whole: where it
+// begins, or once it is moved to the front how long it is.
+struct Piece {
+    tally: Tally,
+    rest: usize,
+}
+
+// Writes the line of a group that has a case.
 fn print(tally: Tally) {
+    if tally.cases == 0 {
+        return;
+    }
     let letter = [tally.group, b' '];
     io::write_all(1, &letter);
     io::print_decimal(1, tally.cases);
@@ -40,35 +56,99 @@ fn counted(tally: Tally, agrees: bool) -> Tally {
     }
 }
 
-fn print_cut_off() {
-    io::write_all(1, b"cut off\n");
-}
-
-fn replay(s: &[u8]) {
-    let mut tally = Tally {
-        group: replay_list::byte_at(s, 0),
-        cases: 0,
-        agreeing: 0,
-    };
+// Replays the whole cases of a piece.
+fn replay_piece(s: &[u8], before: Tally) -> Piece
+    ensures { λ r. ⌜ r .rest ≤ length (now (s .entry)) ⌝ }
+{
+    let mut tally = before;
     let mut at: usize = 0;
     while at < s.len() {
         let case = replay_list::replay_case(s, at);
         let next = case.next;
+        if !case.whole {
+            return Piece { tally, rest: at };
+        }
         if next <= at {
-            print_cut_off();
-            return;
+            return Piece { tally, rest: at };
         }
         tally = counted(of_group(tally, case.group), case.agrees);
         at = next;
     }
-    print(tally);
+    Piece { tally, rest: at }
+}
+
+// Moves what stands from `from` on to the front.
+fn move_to_front(s: &mut [u8], from: usize)
+    requires { ⌜ from ≤ length (now s) ⌝ }
+    ensures { λ _. ⌜ take (length (now (s .entry)) - from) (now (s .exit)) ≡ drop from (now (s .entry)) ⌝ }
+{
+    let n = s.len() - from;
+    let mut i: usize = 0;
+    while i < n {
+        s[i] = s[from + i];
+        i += 1;
+    }
+}
+
+// After the input's end: the last group's line, or that a case is cut off.
+fn print_end(tally: Tally, held: usize) {
+    if held == 0 {
+        print(tally);
+    } else {
+        io::write_all(1, b"cut off\n");
+    }
+}
+
+// Reads on behind the `held` bytes at hand, and answers where what is at hand then ends.
+fn read_on(list: &mut [u8], held: usize) -> usize
+    requires { ⌜ held ≤ length (now list) ⌝ }
+    ensures { λ r. ⌜ (held ≤ r) × (r ≤ length (now (list .exit))) ⌝ }
+    ensures { λ _. ⌜ take held (now (list .exit)) ≡ take held (now (list .entry)) ⌝ }
+{
+    let n = io::read_full(0, &mut list[held..]);
+    held + n
+}
+
+// Replays the whole cases before `end`, moves the rest to the front, and answers how long that is.
+fn replay_held(list: &mut [u8], end: usize, tally: Tally) -> Piece
+    requires { ⌜ end ≤ length (now list) ⌝ }
+    ensures { λ r. ⌜ r .rest ≤ end ⌝ }
+    ensures { λ r. ⌜ take (r .rest) (now (list .exit)) ≡ drop (end - r .rest) (take end (now (list .entry))) ⌝ }
+{
+    let piece = replay_piece(&list[..end], tally);
+    let from = piece.rest;
+    move_to_front(&mut list[..end], from);
+    let counted = piece.tally;
+    Piece {
+        tally: counted,
+        rest: end - from,
+    }
+}
+
+// A proved loop has to end, and nothing says that an input does: the turns are counted down from a
+// number that no run uses up.
+fn replay(list: &mut [u8]) {
+    let mut tally = Tally {
+        group: 0,
+        cases: 0,
+        agreeing: 0,
+    };
+    let mut held: usize = 0;
+    let mut turns = u64::MAX;
+    while turns > 0 {
+        let end = read_on(list, held);
+        if end == held {
+            print_end(tally, held);
+            return;
+        }
+        let piece = replay_held(list, end, tally);
+        tally = piece.tally;
+        held = piece.rest;
+        turns -= 1;
+    }
 }
 
 fn main() {
     let mut list = io::large_buffer();
-    let n = io::read_full(0, &mut list);
-    if n == 65536 {
-        io::write_all(1, b"too long\n");
-    }
-    replay(&list[..n]);
+    replay(&mut list);
 }

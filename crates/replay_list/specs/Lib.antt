@@ -1,1 +1,3 @@
+pub mod Agreement
 pub mod File
+pub mod Format

@@ -2,7 +2,12 @@
 ghost use mathlib.Core.Path.{_≡_};
 ghost use mathlib.Core.Bool.{true};
 ghost use Prim.Native.Nat.{_≤_};
-ghost use Rattle.replay_list.specs.File.{HeldPlaces, BuffersHold};
+ghost use lib.Dec.{leb};
+ghost use lib.ListN.{getD};
+ghost use Rattle.copp3_c.specs.Exported.{exported};
+ghost use Rattle.replay_list.specs.File.{itemAt};
+ghost use Rattle.replay_list.specs.Format.{part, listIn, startsAt, placesAt, lengthAt, problemWith, sizingAt, assemblyAt, indexWritten, heldAt};
+ghost use Rattle.replay_list.specs.Agreement.{buffersOf, assembled, lentBuffers, placesHere, BuffersHold, LentFit, ResultAgrees, Agrees, ToldOf};
 use crate::compare::BYTE;
 use crate::compare::FLOAT;
 use crate::compare::LONG;
@@ -22,10 +27,11 @@ use copp3_c::AnswerRecord;
 use copp3_c::ObjectiveRecords;
 use model::Job;
 
-// What was found: the case's group, whether all agrees, and where the next case begins, which is no
-// later place where the case is cut off.
+// What was found: the case's group, whether it is whole, which is that all its bytes are at hand,
+// whether all agrees, and where the next case begins.
 pub struct Replayed {
     pub group: u8,
+    pub whole: bool,
     pub agrees: bool,
     pub next: usize,
 }
@@ -42,11 +48,15 @@ struct Held {
     end: usize,
 }
 
-fn item(s: &[u8], at: usize, i: usize) -> usize {
+fn item(s: &[u8], at: usize, i: usize) -> usize
+    ensures { λ r. ⌜ r ≡ itemAt (now (s .entry)) at i ⌝ }
+{
     input::size_of(short_at(s, past(at, i, 4)))
 }
 
-fn sizing_at(s: &[u8], at: usize) -> AnswerRecord {
+fn sizing_at(s: &[u8], at: usize) -> AnswerRecord
+    ensures { λ r. ⌜ r ≡ sizingAt (now (s .entry)) at ⌝ }
+{
     AnswerRecord {
         number: item(s, at, 0),
         place: item(s, at, 1),
@@ -58,7 +68,9 @@ fn sizing_at(s: &[u8], at: usize) -> AnswerRecord {
 }
 
 // The assembly's answer has sizing's counts where it accepts.
-fn assembly_at(s: &[u8], at: usize) -> AnswerRecord {
+fn assembly_at(s: &[u8], at: usize) -> AnswerRecord
+    ensures { λ r. ⌜ r ≡ assemblyAt (now (s .entry)) at ⌝ }
+{
     let number = item(s, at, 6);
     let place = item(s, at, 7);
     if number == 0 {
@@ -90,7 +102,9 @@ fn same_answer(a: AnswerRecord, b: AnswerRecord) -> bool
 }
 
 // How many places of the index are written: eight for each objective and for the two owners before them.
-fn index_written(count: usize, answer: AnswerRecord) -> usize {
+fn index_written(count: usize, answer: AnswerRecord) -> usize
+    ensures { λ r. ⌜ r ≡ indexWritten count answer ⌝ }
+{
     if answer.number == 0 {
         return past(16, count, 8);
     }
@@ -98,7 +112,7 @@ fn index_written(count: usize, answer: AnswerRecord) -> usize {
 }
 
 fn held_at(at: usize, counts: AnswerRecord, written: usize) -> Held
-    ensures { λ h. ⌜ HeldPlaces at (counts .entries) (counts .rows) (counts .cones) (counts .columns) (h .columns) (h .values) (h .right) (h .kinds) (h .dimensions) (h .cost) (h .index) ⌝ }
+    ensures { λ h. ⌜ h ≡ heldAt at counts written ⌝ }
 {
     let columns = past(at, counts.entries, 4);
     let values = past(columns, counts.entries, 4);
@@ -134,7 +148,7 @@ fn buffers_agree(
     cost: &[f64; 128],
     index: &[usize; 160],
 ) -> bool
-    ensures { λ t. ⌜ (t ≡ true → BuffersHold (now (s .entry)) at (counts .entries) (counts .rows) (counts .cones) (counts .columns) written (now (rows .entry)) (now (columns .entry)) (now (values .entry)) (now (right .entry)) (now (kinds .entry)) (now (dimensions .entry)) (now (cost .entry)) (now (index .entry))) ⌝ }
+    ensures { λ t. ⌜ (t ≡ true → BuffersHold (now (s .entry)) at counts written placesHere (buffersOf (now (rows .entry)) (now (columns .entry)) (now (values .entry)) (now (right .entry)) (now (kinds .entry)) (now (dimensions .entry)) (now (cost .entry)) (now (index .entry)))) ⌝ }
 {
     let held = held_at(at, counts, written);
     let entries = numbers_agree(s, at, counts.entries, rows)
@@ -149,20 +163,40 @@ fn buffers_agree(
         & index_agrees(s, held.index, written, index)
 }
 
-// The length of buffer k that is lent, of the 128 places that there are.
-fn lent_at(s: &[u8], places: Places, k: usize) -> usize
-    ensures { λ r. ⌜ r ≤ 128 ⌝ }
+// Whether an answer and what the arrays hold after it are what the list says.
+fn result_agrees(
+    s: &[u8],
+    places: Places,
+    count: usize,
+    answer: AnswerRecord,
+    rows: &[u32; 128],
+    columns: &[u32; 128],
+    values: &[f64; 128],
+    right: &[f64; 128],
+    kinds: &[u8; 128],
+    dimensions: &[u32; 128],
+    cost: &[f64; 128],
+    index: &[usize; 160],
+) -> bool
+    ensures { λ t. ⌜ (t ≡ true → ResultAgrees (now (s .entry)) places count placesHere (exported answer (buffersOf (now (rows .entry)) (now (columns .entry)) (now (values .entry)) (now (right .entry)) (now (kinds .entry)) (now (dimensions .entry)) (now (cost .entry)) (now (index .entry))))) ⌝ }
 {
-    let n = item(s, places.lengths, k);
-    if 128 < n { 128 } else { n }
-}
-
-// The length of the index, of its 160 places.
-fn index_lent(s: &[u8], places: Places) -> usize
-    ensures { λ r. ⌜ r ≤ 160 ⌝ }
-{
-    let n = item(s, places.lengths, 7);
-    if 160 < n { 160 } else { n }
+    let expected = assembly_at(s, places.answers);
+    let written = index_written(count, expected);
+    let held = buffers_agree(
+        s,
+        places.held,
+        expected,
+        written,
+        rows,
+        columns,
+        values,
+        right,
+        kinds,
+        dimensions,
+        cost,
+        index,
+    );
+    held & same_answer(answer, expected)
 }
 
 fn assembly_agrees(
@@ -173,7 +207,10 @@ fn assembly_agrees(
     floats: &[f64; 128],
     numbers: &[u32; 64],
     starts: &[usize; 19],
-) -> bool {
+) -> bool
+    requires { ⌜ LentFit (now s) (places .lengths) ⌝ }
+    ensures { λ t. ⌜ (t ≡ true → ResultAgrees (now (s .entry)) places (job .count) (itemAt (now (s .entry)) (places .lengths)) (assembled job records (problemWith job records (listIn (now (floats .entry)) (now (starts .entry))) (part (now (numbers .entry)) 0 (places .split)) (part (now (numbers .entry)) (places .split) (places .end))) (lentBuffers (now (s .entry)) (places .lengths)))) ⌝ }
+{
     let mut rows = [NUMBER; 128];
     let mut columns = [NUMBER; 128];
     let mut values = [FLOAT; 128];
@@ -189,20 +226,20 @@ fn assembly_agrees(
         numbers,
         starts,
         places,
-        &mut rows[..lent_at(s, places, 0)],
-        &mut columns[..lent_at(s, places, 1)],
-        &mut values[..lent_at(s, places, 2)],
-        &mut right[..lent_at(s, places, 3)],
-        &mut kinds[..lent_at(s, places, 4)],
-        &mut dimensions[..lent_at(s, places, 5)],
-        &mut cost[..lent_at(s, places, 6)],
-        &mut index[..index_lent(s, places)],
+        &mut rows[..item(s, places.lengths, 0)],
+        &mut columns[..item(s, places.lengths, 1)],
+        &mut values[..item(s, places.lengths, 2)],
+        &mut right[..item(s, places.lengths, 3)],
+        &mut kinds[..item(s, places.lengths, 4)],
+        &mut dimensions[..item(s, places.lengths, 5)],
+        &mut cost[..item(s, places.lengths, 6)],
+        &mut index[..item(s, places.lengths, 7)],
     );
-    let held = buffers_agree(
+    result_agrees(
         s,
-        places.held,
+        places,
+        job.count,
         answer,
-        index_written(job.count, answer),
         &rows,
         &columns,
         &values,
@@ -211,38 +248,41 @@ fn assembly_agrees(
         &dimensions,
         &cost,
         &index,
-    );
-    held & same_answer(answer, assembly_at(s, places.answers))
+    )
 }
 
-fn fits_at(s: &[u8], at: usize, i: usize) -> bool {
+fn fits_at(s: &[u8], at: usize, i: usize) -> bool
+    ensures { λ r. ⌜ r ≡ leb (itemAt (now (s .entry)) at i) 128 ⌝ }
+{
     item(s, at, i) <= 128
 }
 
-// Whether the buffers' lengths and the four counts are within the arrays here.
-fn buffers_fit(s: &[u8], lengths: usize, answers: usize) -> bool {
+// Whether the buffers' lengths are within the arrays here.
+fn buffers_fit(s: &[u8], lengths: usize) -> bool
+    ensures { λ r. ⌜ (r ≡ true → LentFit (now (s .entry)) lengths) ⌝ }
+{
     let entries = fits_at(s, lengths, 0) & fits_at(s, lengths, 1) & fits_at(s, lengths, 2);
     let cones = fits_at(s, lengths, 4) & fits_at(s, lengths, 5);
-    let lent = entries
-        & fits_at(s, lengths, 3)
-        & cones
-        & fits_at(s, lengths, 6)
-        & (item(s, lengths, 7) <= 160);
-    let wide = fits_at(s, answers, 2) & fits_at(s, answers, 3);
-    lent & wide & fits_at(s, answers, 4) & fits_at(s, answers, 5)
+    let right = fits_at(s, lengths, 3) & fits_at(s, lengths, 6);
+    entries & cones & right & (item(s, lengths, 7) <= 160)
 }
 
 // Whether the case is within the arrays here.
-fn fits(s: &[u8], at: usize, starts: &[usize; 19], places: Places) -> bool {
+fn fits(s: &[u8], at: usize, starts: &[usize; 19], places: Places) -> bool
+    ensures { λ r. ⌜ (r ≡ true → (getD (now (starts .entry)) 18 0 ≤ 128) × (places .end ≤ 64) × LentFit (now (s .entry)) (places .lengths)) ⌝ }
+{
     let input = (starts[18] <= 128) & (places.end <= 64) & (length_at(s, at, 18) <= 16);
-    input & buffers_fit(s, places.lengths, places.answers)
+    input & buffers_fit(s, places.lengths)
 }
 
-fn case_agrees(s: &[u8], at: usize, starts: &[usize; 19], places: Places) -> bool {
-    let mut floats = [0.0; 128];
-    input::read_floats(s, places, starts[1], &mut floats);
-    let mut numbers = [0u32; 64];
-    input::read_numbers(s, places.numbers, &mut numbers);
+fn case_agrees(s: &[u8], at: usize, starts: &[usize; 19], places: Places) -> bool
+    requires { ⌜ now starts ≡ startsAt (now s) at ⌝ }
+    requires { ⌜ places ≡ placesAt (now s) at ⌝ }
+    requires { ⌜ (getD (now starts) 18 0 ≤ 128) × (places .end ≤ 64) × LentFit (now s) (places .lengths) ⌝ }
+    ensures { λ r. ⌜ (r ≡ true → Agrees (now (s .entry)) at) ⌝ }
+{
+    let floats = input::read_floats(s, places, starts[1]);
+    let numbers = input::read_numbers(s, places.numbers);
     let job = input::job_at(s, at);
     let records = input::records_at(s, places.records, length_at(s, at, 18));
     let sized = lent::size(job, records, &floats, &numbers, starts, places);
@@ -253,7 +293,9 @@ fn case_agrees(s: &[u8], at: usize, starts: &[usize; 19], places: Places) -> boo
 }
 
 // The case that begins at `at`.
-pub fn replay_case(s: &[u8], at: usize) -> Replayed {
+pub fn replay_case(s: &[u8], at: usize) -> Replayed
+    ensures { λ r. ⌜ ToldOf (now (s .entry)) at r ⌝ }
+{
     let group = byte_at(s, at);
     let starts = input::starts_at(s, at);
     let places = input::places_at(s, at, &starts);
@@ -264,20 +306,24 @@ pub fn replay_case(s: &[u8], at: usize) -> Replayed {
     if s.len() < next {
         return Replayed {
             group,
+            whole: false,
             agrees: false,
-            next: at,
+            next,
         };
     }
     if !fits(s, at, &starts, places) {
         return Replayed {
             group,
+            whole: true,
             agrees: false,
             next,
         };
     }
+    let agrees = case_agrees(s, at, &starts, places);
     Replayed {
         group,
-        agrees: case_agrees(s, at, &starts, places),
+        whole: true,
+        agrees,
         next,
     }
 }

@@ -61,7 +61,7 @@ fn expected_byte(s: &[u8], at: usize, n: usize, i: usize) -> u8
 }
 
 pub fn numbers_agree(s: &[u8], at: usize, n: usize, found: &[u32; 128]) -> bool
-    ensures { λ r. ⌜ (r ≡ true → NumbersHold (now (s .entry)) at n (now (found .entry))) ⌝ }
+    ensures { λ r. ⌜ (r ≡ true → NumbersHold (now (s .entry)) at n 128 (now (found .entry))) ⌝ }
 {
     let mut i: usize = 0;
     while i < 128 {
@@ -74,7 +74,7 @@ pub fn numbers_agree(s: &[u8], at: usize, n: usize, found: &[u32; 128]) -> bool
 }
 
 pub fn floats_agree(s: &[u8], at: usize, n: usize, found: &[f64; 128]) -> bool
-    ensures { λ r. ⌜ (r ≡ true → FloatsHold (now (s .entry)) at n (now (found .entry))) ⌝ }
+    ensures { λ r. ⌜ (r ≡ true → FloatsHold (now (s .entry)) at n 128 (now (found .entry))) ⌝ }
 {
     let mut i: usize = 0;
     while i < 128 {
@@ -87,7 +87,7 @@ pub fn floats_agree(s: &[u8], at: usize, n: usize, found: &[f64; 128]) -> bool
 }
 
 pub fn bytes_agree(s: &[u8], at: usize, n: usize, found: &[u8; 128]) -> bool
-    ensures { λ r. ⌜ (r ≡ true → BytesHold (now (s .entry)) at n (now (found .entry))) ⌝ }
+    ensures { λ r. ⌜ (r ≡ true → BytesHold (now (s .entry)) at n 128 (now (found .entry))) ⌝ }
 {
     let mut i: usize = 0;
     while i < 128 {
@@ -106,7 +106,7 @@ fn wide(x: usize) -> u64
 }
 
 pub fn index_agrees(s: &[u8], at: usize, n: usize, found: &[usize; 160]) -> bool
-    ensures { λ r. ⌜ (r ≡ true → IndexHolds (now (s .entry)) at n (now (found .entry))) ⌝ }
+    ensures { λ r. ⌜ (r ≡ true → IndexHolds (now (s .entry)) at n 160 (now (found .entry))) ⌝ }
 {
     let mut i: usize = 0;
     while i < 160 {

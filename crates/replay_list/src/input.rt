@@ -1,7 +1,8 @@
 // Decodes a case's problem. `at` is where the case begins.
 ghost use mathlib.Core.Path.{_≡_};
-ghost use Prim.Native.Nat.{_-_, _≤_};
-ghost use lib.ListN.{length, take, drop};
+ghost use mathlib.Core.Bool.{cond};
+ghost use Rattle.replay_list.specs.File.{itemAt};
+ghost use Rattle.replay_list.specs.Format.{each, part, countAt, boundAt, jobAt, lengthAt, floatsOf, startsAt, placesAt, floatNumber, recordAt, recordOrNone, recordsFrom};
 use crate::file::byte_at;
 use crate::file::float_at;
 use crate::file::long_at;
@@ -29,28 +30,40 @@ pub struct Places {
     pub end: usize,
 }
 
-fn whole(n: u64) -> usize {
+fn whole(n: u64) -> usize
+    ensures { λ r. ⌜ r ≡ n ⌝ }
+{
     n as usize
 }
 
-pub fn size_of(n: u32) -> usize {
+pub fn size_of(n: u32) -> usize
+    ensures { λ r. ⌜ r ≡ n ⌝ }
+{
     n as usize
 }
 
-pub fn count_at(s: &[u8], at: usize, i: usize) -> usize {
+pub fn count_at(s: &[u8], at: usize, i: usize) -> usize
+    ensures { λ r. ⌜ r ≡ countAt (now (s .entry)) at i ⌝ }
+{
     whole(long_at(s, past(past(at, 1, 1), i, 8)))
 }
 
-fn bound_at(s: &[u8], at: usize, i: usize) -> f64 {
+fn bound_at(s: &[u8], at: usize, i: usize) -> f64
+    ensures { λ r. ⌜ r ≡ boundAt (now (s .entry)) at i ⌝ }
+{
     float_at(s, past(past(at, 33, 1), i, 8))
 }
 
 // A length of the case: of the grid at 0, of table k at k + 1, of the pool at 17, of the records at 18.
-pub fn length_at(s: &[u8], at: usize, k: usize) -> usize {
+pub fn length_at(s: &[u8], at: usize, k: usize) -> usize
+    ensures { λ r. ⌜ r ≡ lengthAt (now (s .entry)) at k ⌝ }
+{
     size_of(short_at(s, past(past(at, 97, 1), k, 4)))
 }
 
-pub fn job_at(s: &[u8], at: usize) -> Job {
+pub fn job_at(s: &[u8], at: usize) -> Job
+    ensures { λ r. ⌜ r ≡ jobAt (now (s .entry)) at ⌝ }
+{
     let boundary = Boundary {
         a0: bound_at(s, at, 0),
         a1: bound_at(s, at, 1),
@@ -80,7 +93,9 @@ pub fn job_at(s: &[u8], at: usize) -> Job {
 }
 
 // How many floats list k has: tables 0 and 1 have none.
-fn floats_of(s: &[u8], at: usize, k: usize) -> usize {
+fn floats_of(s: &[u8], at: usize, k: usize) -> usize
+    ensures { λ r. ⌜ r ≡ floatsOf (now (s .entry)) at k ⌝ }
+{
     if k == 1 {
         return 0;
     }
@@ -91,7 +106,9 @@ fn floats_of(s: &[u8], at: usize, k: usize) -> usize {
 }
 
 // Where each list of floats begins among all floats of the case, and where the last ends.
-pub fn starts_at(s: &[u8], at: usize) -> [usize; 19] {
+pub fn starts_at(s: &[u8], at: usize) -> [usize; 19]
+    ensures { λ r. ⌜ r ≡ startsAt (now (s .entry)) at ⌝ }
+{
     let mut starts = [0usize; 19];
     let mut k: usize = 0;
     while k < 18 {
@@ -102,7 +119,10 @@ pub fn starts_at(s: &[u8], at: usize) -> [usize; 19] {
     starts
 }
 
-pub fn places_at(s: &[u8], at: usize, starts: &[usize; 19]) -> Places {
+pub fn places_at(s: &[u8], at: usize, starts: &[usize; 19]) -> Places
+    requires { ⌜ now starts ≡ startsAt (now s) at ⌝ }
+    ensures { λ r. ⌜ r ≡ placesAt (now (s .entry)) at ⌝ }
+{
     let grid = past(at, 173, 1);
     let numbers = past(grid, starts[1], 8);
     let split = length_at(s, at, 1);
@@ -125,47 +145,49 @@ pub fn places_at(s: &[u8], at: usize, starts: &[usize; 19]) -> Places {
     }
 }
 
-fn either(first: bool, a: usize, b: usize) -> usize {
+fn either(first: bool, a: usize, b: usize) -> usize
+    ensures { λ r. ⌜ r ≡ cond first a b ⌝ }
+{
     if first { a } else { b }
 }
 
 // The floats in the file's order: the grid, and past the numbers of tables 0 and 1 all others.
-pub fn read_floats(s: &[u8], places: Places, first: usize, out: &mut [f64; 128]) {
+pub fn read_floats(s: &[u8], places: Places, first: usize) -> [f64; 128]
+    ensures { λ r. ⌜ r ≡ each (floatNumber (now (s .entry)) (places .grid) (places .tables) first) 128 ⌝ }
+{
     let grid = places.grid;
     let tables = places.tables;
+    let mut out = [0.0; 128];
     let mut i: usize = 0;
     while i < 128 {
         let from = either(i < first, grid, tables);
         out[i] = float_at(s, past(from, i, 8));
         i += 1;
     }
+    out
 }
 
-pub fn read_numbers(s: &[u8], at: usize, out: &mut [u32; 64]) {
+pub fn read_numbers(s: &[u8], at: usize) -> [u32; 64]
+    ensures { λ r. ⌜ r ≡ each (itemAt (now (s .entry)) at) 64 ⌝ }
+{
+    let mut out = [0u32; 64];
     let mut i: usize = 0;
     while i < 64 {
         out[i] = short_at(s, past(at, i, 4));
         i += 1;
     }
+    out
 }
 
-fn wide(byte: u8) -> u64 {
+fn wide(byte: u8) -> u64
+    ensures { λ r. ⌜ r ≡ byte ⌝ }
+{
     byte as u64
 }
 
-// Record i of the n at a place, and past these Time of weight 0, which nothing looks at.
-fn record_at(s: &[u8], records: usize, n: usize, i: usize) -> ObjectiveRecord {
-    if n <= i {
-        return ObjectiveRecord {
-            kind: 0,
-            weight: 0.0,
-            start: 0,
-            len: 0,
-            start2: 0,
-            len2: 0,
-        };
-    }
-    let at = past(records, i, 41);
+fn record_at(s: &[u8], at: usize) -> ObjectiveRecord
+    ensures { λ r. ⌜ r ≡ recordAt (now (s .entry)) at ⌝ }
+{
     ObjectiveRecord {
         kind: wide(byte_at(s, at)),
         weight: float_at(s, past(at, 1, 1)),
@@ -176,19 +198,38 @@ fn record_at(s: &[u8], records: usize, n: usize, i: usize) -> ObjectiveRecord {
     }
 }
 
-pub fn records_at(s: &[u8], at: usize, n: usize) -> ObjectiveRecords {
-    let mut items = [record_at(s, at, 0, 0); 16];
+// Record i of the n at a place, and past these Time of weight 0, which nothing looks at.
+fn record_or_none(s: &[u8], at: usize, n: usize, i: usize) -> ObjectiveRecord
+    ensures { λ r. ⌜ r ≡ recordOrNone (now (s .entry)) at n i ⌝ }
+{
+    if n <= i {
+        return ObjectiveRecord {
+            kind: 0,
+            weight: 0.0,
+            start: 0,
+            len: 0,
+            start2: 0,
+            len2: 0,
+        };
+    }
+    record_at(s, past(at, i, 41))
+}
+
+pub fn records_at(s: &[u8], at: usize, n: usize) -> ObjectiveRecords
+    ensures { λ r. ⌜ r ≡ recordsFrom (now (s .entry)) at n ⌝ }
+{
+    let mut items = [record_or_none(s, at, 0, 0); 16];
     let mut i: usize = 0;
     while i < 16 {
-        items[i] = record_at(s, at, n, i);
+        items[i] = record_or_none(s, at, n, i);
         i += 1;
     }
     ObjectiveRecords { items }
 }
 
-// Elements from a place to another, and none where these are no places of s.
+// Elements from a place to another, and none where the second is past the end.
 pub fn floats_part(s: &[f64], from: usize, to: usize) -> &[f64]
-    ensures { λ r. ⌜ (from ≤ to → to ≤ length (now (s .entry)) → now r ≡ take (to - from) (drop from (now (s .entry)))) ⌝ }
+    ensures { λ r. ⌜ now r ≡ part (now (s .entry)) from to ⌝ }
 {
     if s.len() < to {
         return &s[..0];
@@ -200,7 +241,7 @@ pub fn floats_part(s: &[f64], from: usize, to: usize) -> &[f64]
 }
 
 pub fn numbers_part(s: &[u32], from: usize, to: usize) -> &[u32]
-    ensures { λ r. ⌜ (from ≤ to → to ≤ length (now (s .entry)) → now r ≡ take (to - from) (drop from (now (s .entry)))) ⌝ }
+    ensures { λ r. ⌜ now r ≡ part (now (s .entry)) from to ⌝ }
 {
     if s.len() < to {
         return &s[..0];

@@ -1,8 +1,9 @@
 // Replays a list of problems with their answers: decodes a case of the file, calls sizing and the
 // assembly, and compares all that they answer and write with the case.
 //
-// No public function has a `requires`. A case that is cut off, or that is larger than the arrays
-// here, is a difference; nothing is read past the file's end.
+// No public function has a `requires`. A case that is not whole, or that is larger than the arrays
+// here, does not agree; nothing is read past the end of what is at hand. Where the next case begins
+// follows from the list's own numbers and never from what sizing or the assembly answered.
 mod case;
 mod compare;
 mod file;

@@ -1,15 +1,17 @@
--- `replay::replay` is safe and ends: each case that is counted begins after the one before it.
-use Prim.Native.Nat.{_-_}
+-- `replay::replay` is safe and ends: what is held lies within the buffer, whose length stays.
+use Prim.Native.Nat.{_≤_}
+use mathlib.Core.Path.{_≡_}
 use native.Mathlib.Omega.{arith}
 use lib.ListN.{length}
+use borrow.Author.Needs.{needs}
 use Rattle.replay.proofs.replay.Statement.{statement}
 use Rattle.replay.proofs.replay.Tie as tie
 
 abbrev Inv-loop : tie.InvT-loop
-Inv-loop s tallyStart at₀ tally at = Unit {0}
+Inv-loop list₀ tally₀ held₀ turns₀ list tally held turns = (held ≤ length list) × (length list ≡ length list₀)
 
 abbrev μ-loop : tie.MeasureT-loop
-μ-loop s tallyStart at₀ tally at = length s - at
+μ-loop list₀ tally₀ held₀ turns₀ list tally held turns = turns
 
 pub replay-spec : {M : Type 1} → statement M
 replay-spec =
@@ -17,14 +19,14 @@ replay-spec =
     (tie.spec
     Inv-loop
     μ-loop
-    (λ c κs. tt)
-    (λ c. tt)
-    (λ c κs. tt)
-    (λ c κs. tt)
-    (λ c. tt)
-    (λ c κs. tt)
-    (λ c κs. tt)
-    (λ c. omega arith)
-    (λ c. tt)
-    (λ c κs. tt)
-    (λ c. tt))
+    (λ c. search needs)
+    (λ c κs. search needs)
+    (λ c κs. search needs)
+    (λ c. search needs)
+    (λ c. search needs)
+    (λ c κs. search needs)
+    (λ c. search needs)
+    (λ c. search needs)
+    (λ c. search needs)
+    (λ c. search needs)
+    (λ c. search needs))

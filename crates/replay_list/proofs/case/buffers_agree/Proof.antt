@@ -1,11 +1,14 @@
 -- `replay_list::case::buffers_agree` meets its contract: all eight comparisons came out true, each at its buffer's place.
+use Rattle.replay_list.specs.declared.case.Held.{Held}
+use mathlib.Core.Path.{ap}
 use Rattle.model.proofs.Passes.{both}
 use Rattle.replay_list.proofs.case.buffers_agree.Statement.{statement}
 use Rattle.replay_list.proofs.case.buffers_agree.Tie as tie
 
 returns : tie.Need-returns
-returns c = λ e.
-    let places = c .before .before .before .before .before .before .before .before .held-at .ensures in
+returns c =
+    λ e.
+    let places = (c .before .before .before .before .before .before .before .before .held-at .ensures) in
     let index = both _ _ e in
     let cost = both _ _ (index .0) in
     let right = both _ _ (cost .0) in
@@ -14,14 +17,14 @@ returns c = λ e.
     let indices = both _ _ (entries .0) in
     let cones = both _ _ (four .1) in
     record {
-      in-rows = c .before .before .before .before .before .before .before .numbers-agree .ensures (indices .0);
-      in-columns = rw (places .columns-at) at (c .before .before .before .before .before .before .numbers-agree2 .ensures (indices .1));
-      in-values = rw (places .values-at) at (c .before .before .before .before .before .floats-agree .ensures (entries .1));
-      in-right = rw (places .right-at) at (c .before .before .floats-agree2 .ensures (right .1));
-      in-kinds = rw (places .kinds-at) at (c .before .before .before .before .bytes-agree .ensures (cones .0));
-      in-dimensions = rw (places .dimensions-at) at (c .before .before .before .numbers-agree3 .ensures (cones .1));
-      in-cost = rw (places .cost-at) at (c .before .floats-agree3 .ensures (cost .1));
-      in-index = rw (places .index-at) at (c .index-agrees .ensures (index .1));
+      in-rows = (c .before .before .before .before .before .before .before .numbers-agree .ensures) (indices .0);
+      in-columns = rw (ap (λ (h : Held). h .columns) places) at ((c .before .before .before .before .before .before .numbers-agree2 .ensures) (indices .1));
+      in-values = rw (ap (λ (h : Held). h .values) places) at ((c .before .before .before .before .before .floats-agree .ensures) (entries .1));
+      in-right = rw (ap (λ (h : Held). h .right) places) at ((c .before .before .floats-agree2 .ensures) (right .1));
+      in-kinds = rw (ap (λ (h : Held). h .kinds) places) at ((c .before .before .before .before .bytes-agree .ensures) (cones .0));
+      in-dimensions = rw (ap (λ (h : Held). h .dimensions) places) at ((c .before .before .before .numbers-agree3 .ensures) (cones .1));
+      in-cost = rw (ap (λ (h : Held). h .cost) places) at ((c .before .floats-agree3 .ensures) (cost .1));
+      in-index = rw (ap (λ (h : Held). h .index) places) at ((c .index-agrees .ensures) (index .1));
     }
 
 pub buffers-agree-spec : {M : Type 1} → statement M

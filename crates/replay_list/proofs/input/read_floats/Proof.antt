@@ -1,14 +1,33 @@
--- `replay_list::input::read_floats` is safe and ends: the index is below 128.
-use Prim.Native.Nat.{_-_}
+-- `replay_list::input::read_floats` meets its contract: the places before i hold their floats.
+use Rattle.replay_list.specs.Format.{floatNumber}
+use Rattle.replay_list.proofs.Laws.{filled, stored}
+use lib.Ieee.{nan}
+use mathlib.Core.Path.{refl}
+use lib.ListN.{length-set}
+use borrow.Author.Count.{below-none}
 use borrow.Author.Needs.{needs}
+use native.Mathlib.Omega.{arith}
+use mathlib.Core.Path.{_≡_}
+use Prim.Native.Nat.{ℕ, _-_, _<_}
+use lib.ListN.{length, getD}
 use Rattle.replay_list.proofs.input.read_floats.Statement.{statement}
 use Rattle.replay_list.proofs.input.read_floats.Tie as tie
 
 abbrev Inv-loop : tie.InvT-loop
-Inv-loop s first out₀ grid tables i₀ out i = Unit {0}
+Inv-loop s first grid tables out₀ i₀ out i = (length out ≡ 128) × ((k : ℕ) → k < i → getD out k nan ≡ floatNumber s grid tables first k)
 
 abbrev μ-loop : tie.MeasureT-loop
-μ-loop s first out₀ grid tables i₀ out i = 128 - i
+μ-loop s first grid tables out₀ i₀ out i = 128 - i
+
+loop-again : tie.Need-loop-again Inv-loop μ-loop
+unfolding floatNumber
+loop-again c =
+    let l = (c .before .before .before .before .loop) in
+    (simp length-set (l .inv .0), stored nan _ (l .out) (l .i) _ (omega arith) (rw ((c .before .past .ensures), (c .before .before .either .ensures)) at (c .float-at .ensures)) (l .inv .1))
+
+returns : tie.Need-returns Inv-loop μ-loop
+returns c =
+    filled nan _ _ 128 ((c .before .loop .inv) .0) (λ j h. (c .before .loop .inv) .1 j (omega arith))
 
 pub read-floats-spec : {M : Type 1} → statement M
 read-floats-spec =
@@ -16,13 +35,13 @@ read-floats-spec =
     (tie.spec
     Inv-loop
     μ-loop
-    (λ c. search needs)
-    (λ c κs. search needs)
-    (λ c κs. search needs)
-    (λ c κs. search needs)
-    (λ c. search needs)
-    (λ c. search needs)
+    (λ c. (refl, below-none _))
+    (λ c κs. tt)
+    (λ c κs. tt)
+    (λ c κs. tt)
     (λ c. search needs)
     (λ c. search needs)
     (λ c. search needs)
-    (λ c. search needs))
+    (λ c. search needs)
+    loop-again
+    returns)

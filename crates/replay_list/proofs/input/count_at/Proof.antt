@@ -1,0 +1,18 @@
+-- `replay_list::input::count_at` meets its contract, by what it calls.
+use mathlib.Core.Path.{_∙_}
+use Rattle.replay_list.proofs.input.count_at.Statement.{statement}
+use Rattle.replay_list.proofs.input.count_at.Tie as tie
+
+returns : tie.Need-returns
+returns c =
+    rw ((c .before .before .past2 .ensures), (c .before .before .before .past .ensures)) at ((c .whole .ensures) ∙ (c .before .long-at .ensures))
+
+pub count-at-spec : {M : Type 1} → statement M
+count-at-spec =
+    tie.close
+    (tie.spec
+    (λ c κs. tt)
+    (λ c κs. tt)
+    (λ c κs. tt)
+    (λ c κs. tt)
+    returns)
