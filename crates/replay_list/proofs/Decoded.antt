@@ -18,7 +18,7 @@ use Rattle.copp3_c.specs.Exported.{objectiveOf}
 use Rattle.replay_list.specs.declared.case.Held.{Held}
 use Rattle.replay_list.specs.declared.input.Places.{Places}
 use Rattle.replay_list.specs.File.{placeAfter, itemAt}
-use Rattle.replay_list.specs.Format.{each, part, listIn, countAt, lengthAt, jobAt, floatsOf, startOf, startsAt, gridPlace, numbersPlace, numbersEnd, tablesPlace, placesAt, floatNumber, listAt, tableAt, recordsFrom, recordsAt, problemWith, problemAt, sizingAt, assemblyAt, answerAt, indexWritten, heldAt, caseEnd}
+use Rattle.replay_list.specs.Format.{each, part, listIn, countAt, lengthAt, jobAt, floatsOf, startOf, startsAt, gridPlace, numbersPlace, numbersEnd, tablesPlace, placesAt, floatNumber, listAt, tableAt, recordsFrom, recordsAt, problemWith, problemAt, sizingAt, assemblyAt, indexWritten, heldAt, caseEnd}
 use Rattle.replay_list.specs.Agreement.{sized, assembled, lentBuffers, ResultAgrees, Agrees}
 use Rattle.replay_list.proofs.Laws.{getD-each, part-each}
 

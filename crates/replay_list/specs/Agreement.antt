@@ -1,7 +1,7 @@
 -- When a case agrees: sizing's answer, the assembly's answer and every place of the eight buffers are what the list says.
 use Prim.Native.Nat.{ℕ, _≤_}
 use mathlib.Core.Path.{_≡_}
-use mathlib.Core.Bool.{Bool, true, cond}
+use mathlib.Core.Bool.{true, cond}
 use mathlib.Core.List.{List}
 use lib.Dec.{eqb, leb}
 use lib.ListN.{getD, length, replicate}
@@ -12,11 +12,10 @@ use Rattle.model.specs.Answers.{Buffers}
 use Rattle.copp3_c.specs.declared.ObjectiveRecords.{ObjectiveRecords}
 use Rattle.copp3_c.specs.declared.AnswerRecord.{AnswerRecord}
 use Rattle.copp3_c.specs.Exported.{Exported, sizedAs, assembledAs}
-use Rattle.replay_list.specs.declared.case.Held.{Held}
 use Rattle.replay_list.specs.declared.case.Replayed.{Replayed}
 use Rattle.replay_list.specs.declared.input.Places.{Places}
 use Rattle.replay_list.specs.File.{itemAt, NumbersHold, FloatsHold, BytesHold, IndexHolds}
-use Rattle.replay_list.specs.Format.{jobAt, recordsAt, problemAt, placesAt, sizingAt, answerAt, assemblyAt, indexWritten, heldAt, caseEnd}
+use Rattle.replay_list.specs.Format.{jobAt, recordsAt, problemAt, placesAt, sizingAt, assemblyAt, indexWritten, heldAt, caseEnd}
 
 abbrev pub buffersOf : List ℕ → List ℕ → List Float → List Float → List ℕ → List ℕ → List Float → List ℕ → Buffers
 buffersOf r c v h k d q x = record { rows = r; columns = c; values = v; right = h; kinds = k; dimensions = d; cost = q; index = x }

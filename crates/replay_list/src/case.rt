@@ -6,7 +6,7 @@ ghost use lib.Dec.{leb};
 ghost use lib.ListN.{getD};
 ghost use Rattle.copp3_c.specs.Exported.{exported};
 ghost use Rattle.replay_list.specs.File.{itemAt};
-ghost use Rattle.replay_list.specs.Format.{part, listIn, startsAt, placesAt, lengthAt, problemWith, sizingAt, assemblyAt, indexWritten, heldAt};
+ghost use Rattle.replay_list.specs.Format.{part, listIn, startsAt, placesAt, problemWith, sizingAt, assemblyAt, indexWritten, heldAt};
 ghost use Rattle.replay_list.specs.Agreement.{buffersOf, assembled, lentBuffers, placesHere, BuffersHold, LentFit, ResultAgrees, Agrees, ToldOf};
 use crate::compare::BYTE;
 use crate::compare::FLOAT;

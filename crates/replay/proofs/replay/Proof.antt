@@ -1,7 +1,6 @@
 -- `replay::replay` is safe and ends: what is held lies within the buffer, whose length stays.
 use Prim.Native.Nat.{_≤_}
 use mathlib.Core.Path.{_≡_}
-use native.Mathlib.Omega.{arith}
 use lib.ListN.{length}
 use borrow.Author.Needs.{needs}
 use Rattle.replay.proofs.replay.Statement.{statement}

@@ -1,11 +1,10 @@
 -- `replay_list::compare::has_bits` meets its contract: only a NaN differs from itself.
-use mathlib.Core.Path.{_≡_, refl, sym, _∙_, ap, subst}
-use mathlib.Core.Bool.{Bool, true, false, not}
+use mathlib.Core.Path.{_≡_, refl, sym, _∙_, ap}
+use mathlib.Core.Bool.{false, not}
 use lib.Dec.{T}
-use lib.Ieee.{Float, nan, inf, fin, isNan, ne, binary64, toBits}
+use lib.Ieee.{Float, nan, inf, fin, isNan, ne}
 use lib.Ieee.Compare.{nan-differs}
 use borrow.Author.Tests.{eqb-true}
-use borrow.Author.Needs.{needs}
 use Rattle.replay_list.proofs.Laws.{never}
 use Rattle.replay_list.proofs.compare.has_bits.Statement.{statement}
 use Rattle.replay_list.proofs.compare.has_bits.Tie as tie

@@ -1,9 +1,8 @@
 -- `replay_list::file::float_of` meets its contract: the test is `nanBits`, by `nanBits-above`.
-use Prim.Native.Nat.{ℕ, _<_, _≤_, _%_}
 use mathlib.Core.Path.{_≡_, refl, sym, _∙_, subst}
-use mathlib.Core.Bool.{Bool, true, false, not}
+use mathlib.Core.Bool.{Bool, true, not}
 use lib.Dec.{T}
-use lib.Ieee.{Float, nan, inf, fin, binary64, nanBits, ofBits, isNan, div}
+use lib.Ieee.{Float, nan, inf, fin, binary64, ofBits, isNan, div}
 use lib.Ieee.Bits.{nanBits-above, nanBits-is}
 use borrow.Author.Tests.{lt-ltb, le-ltb}
 use borrow.Author.Needs.{needs}
