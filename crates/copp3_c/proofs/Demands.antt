@@ -12,13 +12,13 @@ use Rattle.model.specs.Problem.{Problem, objectives}
 use Rattle.model.specs.Refusals.{refusal}
 use Rattle.model.specs.Counts.{counts, entryBound}
 use Rattle.model.specs.Owners.{indexPlaces}
-use Rattle.model.specs.Answers.{Told, outcome, sizing, Buffers, lengths, Result, assembly}
+use Rattle.model.specs.Answers.{Told, outcome, sizing, Buffers, lengths, assembly}
 use Rattle.model.specs.declared.Verdict.{Verdict}
 use Rattle.model.specs.declared.Verdict.the-variants.{Accepted, Refused}
 use Rattle.model.proofs.Room.{needs, Enough, Short, HasIndex}
 use Rattle.model.proofs.Written.{Writes, Formed}
 use Rattle.model.proofs.Demand1.{FiniteBelow, refused-unchanged, refused-alike, accepted-exactly, finite-written}
-use Rattle.model.proofs.Demand3.{Acceptable, accepted, demand3}
+use Rattle.model.proofs.Demand3.{Acceptable, demand3}
 use Rattle.copp3_c.specs.declared.AnswerRecord.{AnswerRecord}
 use Rattle.copp3_c.specs.declared.ObjectiveRecord.{ObjectiveRecord}
 use Rattle.copp3_c.specs.Exported.{kindRefusal, refusedRecord, countsRecord, answerRecord, sizingAfter, assemblyAfter, Exported, exported, exportedAs, sizedAs, assembledAs}

@@ -1,5 +1,5 @@
 -- Answer 40: it comes exactly if a record that counts has an unknown kind, with the lowest such index as its place.
-use Prim.Native.Nat.{ℕ, min, _+_, _≤_, _<_}
+use Prim.Native.Nat.{ℕ, min, _≤_, _<_}
 use native.Mathlib.Omega.{arith}
 use mathlib.Core.Path.{_≡_}
 use mathlib.Core.Logic.{_↔_}
@@ -7,7 +7,7 @@ use mathlib.Core.Bool.{Bool}
 use mathlib.Core.List.{List}
 use lib.ListN.{getD}
 use lib.Dec.{ltb}
-use borrow.Author.Tests.{ltb-true, ltb-false, lt-ltb, le-ltb}
+use borrow.Author.Tests.{ltb-false, lt-ltb, le-ltb}
 use Rattle.model.specs.Verdicts.{itself}
 use Rattle.model.specs.declared.Verdict.the-variants.{Accepted, Refused}
 use Rattle.model.proofs.Passes.{lowest-passes}

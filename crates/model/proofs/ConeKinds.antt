@@ -1,11 +1,10 @@
 -- "Cone kinds are 0 zero, 1 nonnegative, 2 second-order": every cone of a program has one of the three, so a byte holds it.
-use Prim.Native.Nat.{ℕ, _+_, _*_, _<_}
+use Prim.Native.Nat.{ℕ, _+_, _<_}
 use native.Mathlib.Omega.{arith}
 use mathlib.Core.Bool.{Bool, true, false, cond}
 use mathlib.Core.List.{List, [], _∷_, map}
-use Rattle.model.specs.Lists.{list, joined}
-use Rattle.model.specs.Problem.{Problem, Path, L, hasRoot}
-use Rattle.model.specs.Program.{Cone, Block, nothing}
+use Rattle.model.specs.Problem.{Problem, L, hasRoot}
+use Rattle.model.specs.Program.{Cone, nothing}
 use Rattle.model.specs.Standard.{standard, root, rootStage, rootCone}
 use Rattle.model.specs.Objectives.{objectiveBlock, timeBlock, timeCone, thermalBlock, thermalCone, torqueBlock, linearBlock}
 use Rattle.model.specs.Assembled.{cones, blocks, objectiveBlocks, width, coneKinds}
