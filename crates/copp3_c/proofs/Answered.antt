@@ -15,29 +15,13 @@ use Rattle.model.specs.declared.Verdict.{Verdict}
 use Rattle.model.specs.declared.Verdict.the-variants.{Accepted, Refused}
 use Rattle.model.specs.declared.Answer.{Answer}
 use Rattle.model.specs.declared.Answer.the-variants.{Refusal}
+use Rattle.model.proofs.Unread.{withSlots}
 use Rattle.model.proofs.Demand1.{Numbered, refusal-numbered, accepted-exactly}
 use Rattle.model.proofs.Demand3.{demand3}
 use Rattle.copp3_c.specs.declared.AnswerRecord.{AnswerRecord}
 use Rattle.copp3_c.specs.declared.ObjectiveRecord.{ObjectiveRecord}
 use Rattle.copp3_c.specs.Exported.{kindRefusal, refusedRecord, answerRecord, sizingAfter, assemblyAfter, exported, exportedAs}
 use Rattle.copp3_c.proofs.KnownKinds.{kind-number}
-
--- a problem with other slots
-abbrev pub withSlots : Problem → List Objective → Problem
-withSlots p os =
-    record {
-      boundary = p .boundary;
-      path = p .path;
-      count = p .count;
-      slots = os;
-      pool = p .pool;
-      limits = p .limits;
-      acc = p .acc;
-      jerk = p .jerk;
-      thermal = p .thermal;
-      torque = p .torque;
-      roots = p .roots;
-    }
 
 module _ {x : AnswerRecord} {v k : Verdict} (p : Problem) (judged : k ≡ v) where
   pub size-refused : {r q : ℕ} → k ≡ Refused r q → x ≡ answerRecord (told (Refusal r q)) → x ≡ answerRecord (sizingAfter v p)

@@ -117,7 +117,7 @@ fn kind_check(items: [ObjectiveRecord; 16], count: usize) -> Verdict
     Verdict::Accepted
 }
 
-// A refusal's number is above 0, which tells of a success.
+// A refusal's number is above 0; the number 0 tells of a success.
 fn answer_record(a: Answer) -> AnswerRecord
     requires { ⌜ ((r k : ℕ) → a ≡ Refusal r k → 0 < r) ⌝ }
     ensures { λ r. ⌜ r ≡ answerRecord (told a) ⌝ }

@@ -9,18 +9,16 @@ use lib.Seq.{take-length}
 use lib.Ieee.{Float}
 use Rattle.model.specs.Numbers.{+0, +1}
 use Rattle.model.specs.Problem.{Problem, problem, objectives}
-use Rattle.model.specs.Refusals.{refusal, setupRefusal, tablesRefusal}
-use Rattle.model.specs.Counts.{counts, standardCounts, rootCounts, objectiveCounts, objectivesCounts}
 use Rattle.model.specs.Answers.{Told, sizing}
 use Rattle.model.specs.declared.Job.{Job}
 use Rattle.model.specs.declared.Objective.{Objective}
-use Rattle.model.specs.declared.Objective.the-variants.{Time, ThermalEnergy, TotalVariationTorque, Linear}
+use Rattle.model.proofs.Unread.{unread-slots}
 use Rattle.ledger_cases.specs.Cases.{jobOf, problemOf, Small}
 use Rattle.ledger_cases.specs.declared.Case.{Case}
 
 -- a problem with another count and other slots
-abbrev withSlots : Problem → ℕ → List Objective → Problem
-withSlots p count slots =
+abbrev withObjectives : Problem → ℕ → List Objective → Problem
+withObjectives p count slots =
     record {
       boundary = p .boundary;
       path = p .path;
@@ -35,22 +33,11 @@ withSlots p count slots =
       roots = p .roots;
     }
 
-module _ (p : Problem) (count : ℕ) (slots : List Objective) where
-  counts-alike : (o : Objective) → objectiveCounts (withSlots p count slots) o ≡ objectiveCounts p o
-  unfolding objectiveCounts
-  counts-alike (Time w) = refl
-  counts-alike (ThermalEnergy w s l) = refl
-  counts-alike (TotalVariationTorque w s l) = refl
-  counts-alike (Linear w a al b bl) = refl
-
-  all-alike : (os : List Objective) → objectivesCounts (withSlots p count slots) os ≡ objectivesCounts p os
-  unfolding objectivesCounts
-  all-alike [] = refl
-  all-alike (o ∷ os) = rw (counts-alike o, all-alike os)
-
-  sizing-slots : count ≡ p .count → take count slots ≡ objectives p → sizing (withSlots p count slots) ≡ sizing p
-  unfolding sizing refusal setupRefusal tablesRefusal counts standardCounts rootCounts
-  sizing-slots e f = rw (f, all-alike (objectives p), e)
+-- slots past the count are never read
+sizing-slots : (p : Problem) (count : ℕ) (slots : List Objective) → count ≡ p .count → take count slots ≡ objectives p → sizing (withObjectives p count slots) ≡ sizing p
+sizing-slots p count slots e f =
+    ap (λ (k : ℕ). sizing (withObjectives p k slots)) e
+    ∙ sym (unread-slots p slots (sym f ∙ ap (λ (k : ℕ). take k slots) e) .sizing)
 
 take-replicate : {A : Type 0} (k n : ℕ) (x : A) → k ≤ n → take k (replicate n x) ≡ replicate k x
 take-replicate zero zero x h = refl

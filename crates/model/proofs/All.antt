@@ -7,7 +7,7 @@ use native.Mathlib.Omega.{arith}
 use mathlib.Core.Path.{_≡_, refl, subst}
 use mathlib.Core.Logic.{_↔_}
 use mathlib.Core.Bool.{Bool, true, false, false≢true}
-use mathlib.Core.List.{List, [], _∷_, _++_}
+use mathlib.Core.List.{List, [], _∷_, _++_, map}
 use lib.ListN.{length, getD}
 use Rattle.model.specs.Lists.{list, over, given, joined}
 
@@ -52,6 +52,10 @@ module _ {A : Type 0} where
   pub all-imp : (P Q : A → Type 0) (xs : List A) → ((x : A) → P x → Q x) → All P xs → All Q xs
   all-imp P Q [] f h = tt
   all-imp P Q (x ∷ xs) f h = (f x (h .0), all-imp P Q xs f (h .1))
+
+pub all-map : {A B : Type 0} (P : B → Type 0) (f : A → B) (l : List A) → All P (map f l) ↔ All (λ x. P (f x)) l
+all-map P f [] = (λ h. h, λ h. h)
+all-map P f (x ∷ l) = let e = all-map P f l in (λ h. (h .0, e .0 (h .1)), λ h. (h .0, e .1 (h .1)))
 
 -- the lists of a list: `over` and `joined`
 pub all-joined : {A B : Type 0} (P : A → Type 0) (f : B → List A) (bs : List B) → All P (joined f bs) ↔ All (λ b. All P (f b)) bs

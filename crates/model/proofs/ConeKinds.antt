@@ -2,7 +2,7 @@
 use Prim.Native.Nat.{ℕ, _+_, _<_}
 use native.Mathlib.Omega.{arith}
 use mathlib.Core.Bool.{Bool, true, false, cond}
-use mathlib.Core.List.{List, [], _∷_, map}
+use mathlib.Core.List.{List, [], _∷_}
 use Rattle.model.specs.Problem.{Problem, L, hasRoot}
 use Rattle.model.specs.Program.{Cone, nothing}
 use Rattle.model.specs.Standard.{standard, root, rootStage, rootCone}
@@ -10,7 +10,7 @@ use Rattle.model.specs.Objectives.{objectiveBlock, timeBlock, timeCone, 
 use Rattle.model.specs.Assembled.{cones, blocks, objectiveBlocks, width, coneKinds}
 use Rattle.model.specs.declared.Objective.{Objective}
 use Rattle.model.specs.declared.Objective.the-variants.{Time, ThermalEnergy, TotalVariationTorque, Linear}
-use Rattle.model.proofs.All.{All, all-append, all-given, all-list, all-joined}
+use Rattle.model.proofs.All.{All, all-append, all-given, all-list, all-map, all-joined}
 
 abbrev pub Known : Cone → Type 0
 Known c = c .kind < 3
@@ -44,10 +44,6 @@ module _ (p : Problem) where
   unfolding cones blocks
   cones-known = (all-joined Known (λ b. b .cones) (blocks p)) .1 (standard-known, (root-known, objectives-known _ _))
 
-  map-known : (cs : List Cone) → All Known cs → All (λ (k : ℕ). k < 3) (map (λ c. c .kind) cs)
-  map-known [] h = tt
-  map-known (c ∷ cs) h = (h .0, map-known cs (h .1))
-
   pub kinds-known : All (λ (k : ℕ). k < 3) (coneKinds p)
   unfolding coneKinds
-  kinds-known = map-known (cones p) cones-known
+  kinds-known = (all-map (λ (k : ℕ). k < 3) (λ (c : Cone). c .kind) (cones p)) .1 cones-known

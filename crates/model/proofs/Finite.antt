@@ -1,7 +1,7 @@
 -- What refusal 20 leaves: every number to be written to values, right side or cost is finite.
 use mathlib.Core.Path.{_≡_}
 use mathlib.Core.Bool.{true, not}
-use mathlib.Core.List.{List, [], _∷_, map}
+use mathlib.Core.List.{List, [], _∷_}
 use lib.Ieee.{Float}
 use borrow.Author.Tests.{not-false}
 use Rattle.model.specs.Numbers.{finite}
@@ -18,10 +18,6 @@ Finite x = finite x ≡ true
 pub all-finite : (l : List Float) → allFinite l ≡ true → All Finite l
 all-finite [] e = tt
 all-finite (x ∷ l) e = let h = both (finite x) (allFinite l) e in (h .0, all-finite l (h .1))
-
-pub all-map : {A : Type 0} (f : A → Float) (l : List A) → All Finite (map f l) → All (λ x. Finite (f x)) l
-all-map f [] h = tt
-all-map f (x ∷ l) h = (h .0, all-map f l (h .1))
 
 pub record FiniteLists (p : Problem) : Type 0 where
   pub values : All Finite (values p)

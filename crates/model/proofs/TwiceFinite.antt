@@ -12,9 +12,9 @@ use Rattle.model.specs.Standard.{intervalRows, firstOrder, inequalities,
 use Rattle.model.specs.Assembled.{blocks, cones, bands, entries, values}
 use Rattle.model.specs.Answers.{finiteRefusal}
 use Rattle.model.specs.declared.Verdict.the-variants.{Accepted}
-use Rattle.model.proofs.All.{All, all-append, all-list, all-over, all-joined}
+use Rattle.model.proofs.All.{All, all-append, all-list, all-over, all-map, all-joined}
 use Rattle.model.proofs.Sizes.{Sizes}
-use Rattle.model.proofs.Finite.{Finite, all-map, finite-lists}
+use Rattle.model.proofs.Finite.{Finite, finite-lists}
 
 -- every −2·h that an interval row holds is finite
 abbrev pub TwiceFinite : Path → Type 0
@@ -41,7 +41,7 @@ module _ (p : Problem) where
   pub accepted-twice-finite : Sizes (p .path) → finiteRefusal p ≡ Accepted → TwiceFinite (p .path)
   unfolding values entries bands cones blocks standard inequalities firstOrder intervalRows
   accepted-twice-finite l e k u v =
-      let all = bands-finite 0 (bands p) (all-map (λ (e : Entry). e .value) (entries p) (finite-lists p e .values)) in
+      let all = bands-finite 0 (bands p) ((all-map Finite (λ (e : Entry). e .value) (entries p)) .0 (finite-lists p e .values)) in
       let each = (all-joined (λ (c : Cone). All FiniteBand (c .bands)) (λ (b : Block). b .cones) (blocks p)) .0 ((all-joined FiniteBand (λ (c : Cone). c .bands) (cones p)) .0 all) in
       let rows = simp (all-append, all-over) at (each .0 .1 .0) in
       (rows .0 .0 .1 k (omega arith) (omega arith)) .1 .0 .1 .0 0 (omega arith)

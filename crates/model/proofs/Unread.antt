@@ -5,7 +5,7 @@ use native.Mathlib.Omega.{arith}
 use mathlib.Core.Path.{_≡_, refl, sym, ap, subst, _∙_}
 use mathlib.Core.Bool.{Bool, true, false, not, _&&_, or-true, false≢true}
 use mathlib.Core.List.{List, [], _∷_, map}
-use lib.ListN.{length, getD, set, replicate, length-map, length-set}
+use lib.ListN.{length, getD, take, set, replicate, length-map, length-set}
 use lib.Seq.{getD-set-other}
 use lib.Dec.{ltb}
 use lib.Ieee.{Float, nan}
@@ -130,14 +130,14 @@ some-at f (o ∷ os) (suc i) z e = simp (some-at f os i z e, or-true)
 -- ---- the sentences, for some numbers that are not used
 
 module _ (p : Problem) where
-  -- the problem with other bounds and thermal weights
-  abbrev other : Limits → List Float → Problem
-  other l t =
+  -- the problem with other slots, bounds and thermal weights
+  abbrev other : List Objective → Limits → List Float → Problem
+  other os l t =
       record {
         boundary = p .boundary;
         path = p .path;
         count = p .count;
-        slots = p .slots;
+        slots = os;
         pool = p .pool;
         limits = l;
         acc = p .acc;
@@ -153,20 +153,20 @@ module _ (p : Problem) where
   torque-same : {used : ℕ → Type 0} → SameTorque (p .path) used (p .torque) (p .torque)
   torque-same = record { a = same _; b = same _; g = same _ }
 
-  module _ (l : Limits) (t : List Float) where
-    for-same : (o : Objective) → (isThermal o ≡ true → p .thermal ≡ t) → SameFor p (other l t) o
+  module _ (os : List Objective) (l : Limits) (t : List Float) where
+    for-same : (o : Objective) → (isThermal o ≡ true → p .thermal ≡ t) → SameFor p (other os l t) o
     for-same (Time w) e = tt
     for-same (ThermalEnergy w start len) e = (refl, torque-same, record { long = ap length (e refl); equal = λ i h. ap (λ x. at x i) (e refl) })
     for-same (TotalVariationTorque w start len) e = (refl, torque-same)
     for-same (Linear w a al b bl) e = (same _, same _, same _, same _)
 
-    other-unread : SameLimits (p .path) (p .limits) l → (some isThermal (objectives p) ≡ true → p .thermal ≡ t) → SameAnswers p (other l t)
-    other-unread h e =
-        unread p (other l t) record {
+    other-unread : objectives p ≡ take (p .count) os → SameLimits (p .path) (p .limits) l → (some isThermal (objectives p) ≡ true → p .thermal ≡ t) → SameAnswers p (other os l t)
+    other-unread f h e =
+        unread p (other os l t) record {
           boundary = refl;
           path = refl;
           count = refl;
-          chosen = refl;
+          chosen = f;
           d = refl;
           limits = h;
           acc = record { counts = refl; a = same _; b = same _; max = same _ };
@@ -175,17 +175,17 @@ module _ (p : Problem) where
         }
 
   -- "an end with count 0 has bounds that aren't read"
-  pub unread-start : (b : Bounds) → p .path .N0 ≡ 0 → SameAnswers p (other record { start = b; end = p .limits .end; amax = p .limits .amax } (p .thermal))
-  unread-start b e = other-unread _ _ record { start = λ h. absurd (omega arith); end = λ h. refl; amax = same _ } (λ h. refl)
+  pub unread-start : (b : Bounds) → p .path .N0 ≡ 0 → SameAnswers p (other (p .slots) record { start = b; end = p .limits .end; amax = p .limits .amax } (p .thermal))
+  unread-start b e = other-unread _ _ _ refl record { start = λ h. absurd (omega arith); end = λ h. refl; amax = same _ } (λ h. refl)
 
-  pub unread-end : (b : Bounds) → p .path .N1 ≡ 0 → SameAnswers p (other record { start = p .limits .start; end = b; amax = p .limits .amax } (p .thermal))
-  unread-end b e = other-unread _ _ record { start = λ h. refl; end = λ h. absurd (omega arith); amax = same _ } (λ h. refl)
+  pub unread-end : (b : Bounds) → p .path .N1 ≡ 0 → SameAnswers p (other (p .slots) record { start = p .limits .start; end = b; amax = p .limits .amax } (p .thermal))
+  unread-end b e = other-unread _ _ _ refl record { start = λ h. refl; end = λ h. absurd (omega arith); amax = same _ } (λ h. refl)
 
   -- "u is the number of finite upper bounds among .. amax of stations N0+1 to n−N1−1": of no other station is it used
   pub unread-amax : (k : ℕ) (x : Float) → ¬ Inner (p .path) k
-      → SameAnswers p (other record { start = p .limits .start; end = p .limits .end; amax = set (p .limits .amax) k x } (p .thermal))
+      → SameAnswers p (other (p .slots) record { start = p .limits .start; end = p .limits .end; amax = set (p .limits .amax) k x } (p .thermal))
   unread-amax k x out =
-      other-unread _ _ record {
+      other-unread _ _ _ refl record {
         start = λ h. refl;
         end = λ h. refl;
         amax =
@@ -196,5 +196,12 @@ module _ (p : Problem) where
       } (λ h. refl)
 
   -- "Table 10 counts only with a ThermalEnergy objective": without one it "may have any length"
-  pub unread-weights : (t : List Float) → some isThermal (objectives p) ≡ false → SameAnswers p (other (p .limits) t)
-  unread-weights t e = other-unread _ _ record { start = λ h. refl; end = λ h. refl; amax = same _ } (λ h. absurd (false≢true (sym e ∙ h)))
+  pub unread-weights : (t : List Float) → some isThermal (objectives p) ≡ false → SameAnswers p (other (p .slots) (p .limits) t)
+  unread-weights t e = other-unread _ _ _ refl record { start = λ h. refl; end = λ h. refl; amax = same _ } (λ h. absurd (false≢true (sym e ∙ h)))
+
+  -- slots past the count
+  abbrev pub withSlots : List Objective → Problem
+  withSlots os = other os (p .limits) (p .thermal)
+
+  pub unread-slots : (os : List Objective) → objectives p ≡ take (p .count) os → SameAnswers p (withSlots os)
+  unread-slots os e = other-unread _ _ _ e record { start = λ h. refl; end = λ h. refl; amax = same _ } (λ h. refl)

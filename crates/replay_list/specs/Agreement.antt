@@ -9,6 +9,7 @@ use lib.Ieee.{Float, binary64, ofBits}
 use Rattle.model.specs.declared.Job.{Job}
 use Rattle.model.specs.Problem.{Problem}
 use Rattle.model.specs.Answers.{Buffers}
+use Rattle.passes.specs.Program.{buffers}
 use Rattle.copp3_c.specs.declared.ObjectiveRecords.{ObjectiveRecords}
 use Rattle.copp3_c.specs.declared.AnswerRecord.{AnswerRecord}
 use Rattle.copp3_c.specs.Exported.{Exported, sizedAs, assembledAs}
@@ -16,9 +17,6 @@ use Rattle.replay_list.specs.declared.case.Replayed.{Replayed}
 use Rattle.replay_list.specs.declared.input.Places.{Places}
 use Rattle.replay_list.specs.File.{itemAt, NumbersHold, FloatsHold, BytesHold, IndexHolds}
 use Rattle.replay_list.specs.Format.{jobAt, recordsAt, problemAt, placesAt, sizingAt, assemblyAt, indexWritten, heldAt, caseEnd}
-
-abbrev pub buffersOf : List ℕ → List ℕ → List Float → List Float → List ℕ → List ℕ → List Float → List ℕ → Buffers
-buffersOf r c v h k d q x = record { rows = r; columns = c; values = v; right = h; kinds = k; dimensions = d; cost = q; index = x }
 
 -- what copp3_size and copp3_assemble answer
 unfoldable pub sized : Job → ObjectiveRecords → Problem → AnswerRecord
@@ -30,7 +28,7 @@ assembled job records = assembledAs (job .count) (records .items)
 -- the buffers that are lent, of the list's lengths, and what they hold before the call
 unfoldable pub lentBuffers : List ℕ → ℕ → Buffers
 lentBuffers s at =
-    buffersOf (replicate (itemAt s at 0) 2779096485) (replicate (itemAt s at 1) 2779096485) (replicate (itemAt s at 2) (ofBits binary64 13876516240719085568))
+    buffers (replicate (itemAt s at 0) 2779096485) (replicate (itemAt s at 1) 2779096485) (replicate (itemAt s at 2) (ofBits binary64 13876516240719085568))
     (replicate (itemAt s at 3) (ofBits binary64 13876516240719085568)) (replicate (itemAt s at 4) 165) (replicate (itemAt s at 5) 2779096485)
     (replicate (itemAt s at 6) (ofBits binary64 13876516240719085568)) (replicate (itemAt s at 7) 13876516240719085568)
 

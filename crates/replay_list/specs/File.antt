@@ -6,6 +6,7 @@ use lib.Dec.{leb, ltb}
 use lib.ListN.{getD, length}
 use lib.Ieee.{Float, binary64, ofBits, toBits, nan}
 use mathlib.Core.Path.{_≡_}
+use Rattle.model.specs.Verdicts.{itself}
 
 -- the place after n items of so many bytes; a length or a place that no file has ends at a place that no file reaches
 unfoldable pub placeAfter : ℕ → ℕ → ℕ → ℕ
@@ -48,9 +49,6 @@ expectedByte = expected byteAt 1 165
 -- The first m places of a buffer hold each what is expected: the number, or a float's bits.
 abbrev pub Holds : {A : Type 0} → (A → ℕ) → A → (ℕ → ℕ) → ℕ → List A → Type 0
 Holds number d e m l = (i : ℕ) → i < m → number (getD l i d) ≡ e i
-
-abbrev pub itself : ℕ → ℕ
-itself x = x
 
 abbrev pub NumbersHold : List ℕ → ℕ → ℕ → ℕ → List ℕ → Type 0
 NumbersHold s at n = Holds itself 0 (expectedNumber s at n)

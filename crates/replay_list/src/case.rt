@@ -7,7 +7,8 @@ ghost use lib.ListN.{getD};
 ghost use Rattle.copp3_c.specs.Exported.{exported};
 ghost use Rattle.replay_list.specs.File.{itemAt};
 ghost use Rattle.replay_list.specs.Format.{part, listIn, startsAt, placesAt, problemWith, sizingAt, assemblyAt, indexWritten, heldAt};
-ghost use Rattle.replay_list.specs.Agreement.{buffersOf, assembled, lentBuffers, placesHere, BuffersHold, LentFit, ResultAgrees, Agrees, ToldOf};
+ghost use Rattle.replay_list.specs.Agreement.{assembled, lentBuffers, placesHere, BuffersHold, LentFit, ResultAgrees, Agrees, ToldOf};
+ghost use Rattle.passes.specs.Program.{buffers};
 use crate::compare::BYTE;
 use crate::compare::FLOAT;
 use crate::compare::LONG;
@@ -148,7 +149,7 @@ fn buffers_agree(
     cost: &[f64; 128],
     index: &[usize; 160],
 ) -> bool
-    ensures { λ t. ⌜ (t ≡ true → BuffersHold (now (s .entry)) at counts written placesHere (buffersOf (now (rows .entry)) (now (columns .entry)) (now (values .entry)) (now (right .entry)) (now (kinds .entry)) (now (dimensions .entry)) (now (cost .entry)) (now (index .entry)))) ⌝ }
+    ensures { λ t. ⌜ (t ≡ true → BuffersHold (now (s .entry)) at counts written placesHere (buffers (now (rows .entry)) (now (columns .entry)) (now (values .entry)) (now (right .entry)) (now (kinds .entry)) (now (dimensions .entry)) (now (cost .entry)) (now (index .entry)))) ⌝ }
 {
     let held = held_at(at, counts, written);
     let entries = numbers_agree(s, at, counts.entries, rows)
@@ -178,7 +179,7 @@ fn result_agrees(
     cost: &[f64; 128],
     index: &[usize; 160],
 ) -> bool
-    ensures { λ t. ⌜ (t ≡ true → ResultAgrees (now (s .entry)) places count placesHere (exported answer (buffersOf (now (rows .entry)) (now (columns .entry)) (now (values .entry)) (now (right .entry)) (now (kinds .entry)) (now (dimensions .entry)) (now (cost .entry)) (now (index .entry))))) ⌝ }
+    ensures { λ t. ⌜ (t ≡ true → ResultAgrees (now (s .entry)) places count placesHere (exported answer (buffers (now (rows .entry)) (now (columns .entry)) (now (values .entry)) (now (right .entry)) (now (kinds .entry)) (now (dimensions .entry)) (now (cost .entry)) (now (index .entry))))) ⌝ }
 {
     let expected = assembly_at(s, places.answers);
     let written = index_written(count, expected);

@@ -1,6 +1,6 @@
 -- `replay_list::case::assembly_agrees` meets its contract: the comparison is of the lent buffers, which are the front of the arrays here.
 use Rattle.replay_list.proofs.Laws.{counted, at-most}
-use Rattle.replay_list.specs.Agreement.{buffersOf}
+use Rattle.passes.specs.Program.{buffers}
 use Rattle.replay_list.proofs.Called.{lent, result-agrees}
 use lib.ListN.{take, drop, replicate}
 use lib.Ieee.{binary64, ofBits}
@@ -75,9 +75,9 @@ returns : tie.Need-returns
 returns c =
     λ e.
     result-agrees _ _ _ _ _ _ _
-    (buffersOf (take ((c .before .before .before .before .before .before .before .before .before .before .before .before .before .before .before .before .before .before .before .before .before .before .before .before .before .before .before .before .before .before .before .before .before .item .result)) (replicate 128 2779096485)) (take ((c .before .before .before .before .before .before .before .before .before .before .before .before .before .before .before .before .before .before .before .before .before .before .before .before .before .before .before .before .before .before .before .item2 .result)) (replicate 128 2779096485)) (take ((c .before .before .before .before .before .before .before .before .before .before .before .before .before .before .before .before .before .before .before .before .before .before .before .before .before .before .before .before .before .item3 .result)) (replicate 128 (ofBits binary64 13876516240719085568))) (take ((c .before .before .before .before .before .before .before .before .before .before .before .before .before .before .before .before .before .before .before .before .before .before .before .before .before .before .before .item4 .result)) (replicate 128 (ofBits binary64 13876516240719085568))) (take ((c .before .before .before .before .before .before .before .before .before .before .before .before .before .before .before .before .before .before .before .before .before .before .before .before .before .item5 .result)) (replicate 128 165)) (take ((c .before .before .before .before .before .before .before .before .before .before .before .before .before .before .before .before .before .before .before .before .before .before .before .item6 .result)) (replicate 128 2779096485)) (take ((c .before .before .before .before .before .before .before .before .before .before .before .before .before .before .before .before .before .before .before .before .before .item7 .result)) (replicate 128 (ofBits binary64 13876516240719085568))) (take ((c .before .before .before .before .before .before .before .before .before .before .before .before .before .before .before .before .before .before .before .item8 .result)) (replicate 160 13876516240719085568)))
-    (buffersOf ((c .before .before .before .before .before .before .before .before .before .before .before .before .before .before .before .before .before .assemble .last) .1 .1 .1 .1 .1 .1 .0) ((c .before .before .before .before .before .before .before .before .before .before .before .before .before .before .before .before .before .assemble .last) .1 .1 .1 .1 .1 .1 .1 .0) ((c .before .before .before .before .before .before .before .before .before .before .before .before .before .before .before .before .before .assemble .last) .1 .1 .1 .1 .1 .1 .1 .1 .0) ((c .before .before .before .before .before .before .before .before .before .before .before .before .before .before .before .before .before .assemble .last) .1 .1 .1 .1 .1 .1 .1 .1 .1 .0) ((c .before .before .before .before .before .before .before .before .before .before .before .before .before .before .before .before .before .assemble .last) .1 .1 .1 .1 .1 .1 .1 .1 .1 .1 .0) ((c .before .before .before .before .before .before .before .before .before .before .before .before .before .before .before .before .before .assemble .last) .1 .1 .1 .1 .1 .1 .1 .1 .1 .1 .1 .0) ((c .before .before .before .before .before .before .before .before .before .before .before .before .before .before .before .before .before .assemble .last) .1 .1 .1 .1 .1 .1 .1 .1 .1 .1 .1 .1 .0) ((c .before .before .before .before .before .before .before .before .before .before .before .before .before .before .before .before .before .assemble .last) .1 .1 .1 .1 .1 .1 .1 .1 .1 .1 .1 .1 .1 .0))
-    (buffersOf (drop ((c .before .before .before .before .before .before .before .before .before .before .before .before .before .before .before .before .before .before .before .before .before .before .before .before .before .before .before .before .before .before .before .before .before .item .result)) (replicate 128 2779096485)) (drop ((c .before .before .before .before .before .before .before .before .before .before .before .before .before .before .before .before .before .before .before .before .before .before .before .before .before .before .before .before .before .before .before .item2 .result)) (replicate 128 2779096485)) (drop ((c .before .before .before .before .before .before .before .before .before .before .before .before .before .before .before .before .before .before .before .before .before .before .before .before .before .before .before .before .before .item3 .result)) (replicate 128 (ofBits binary64 13876516240719085568))) (drop ((c .before .before .before .before .before .before .before .before .before .before .before .before .before .before .before .before .before .before .before .before .before .before .before .before .before .before .before .item4 .result)) (replicate 128 (ofBits binary64 13876516240719085568))) (drop ((c .before .before .before .before .before .before .before .before .before .before .before .before .before .before .before .before .before .before .before .before .before .before .before .before .before .item5 .result)) (replicate 128 165)) (drop ((c .before .before .before .before .before .before .before .before .before .before .before .before .before .before .before .before .before .before .before .before .before .before .before .item6 .result)) (replicate 128 2779096485)) (drop ((c .before .before .before .before .before .before .before .before .before .before .before .before .before .before .before .before .before .before .before .before .before .item7 .result)) (replicate 128 (ofBits binary64 13876516240719085568))) (drop ((c .before .before .before .before .before .before .before .before .before .before .before .before .before .before .before .before .before .before .before .item8 .result)) (replicate 160 13876516240719085568)))
+    (buffers (take ((c .before .before .before .before .before .before .before .before .before .before .before .before .before .before .before .before .before .before .before .before .before .before .before .before .before .before .before .before .before .before .before .before .before .item .result)) (replicate 128 2779096485)) (take ((c .before .before .before .before .before .before .before .before .before .before .before .before .before .before .before .before .before .before .before .before .before .before .before .before .before .before .before .before .before .before .before .item2 .result)) (replicate 128 2779096485)) (take ((c .before .before .before .before .before .before .before .before .before .before .before .before .before .before .before .before .before .before .before .before .before .before .before .before .before .before .before .before .before .item3 .result)) (replicate 128 (ofBits binary64 13876516240719085568))) (take ((c .before .before .before .before .before .before .before .before .before .before .before .before .before .before .before .before .before .before .before .before .before .before .before .before .before .before .before .item4 .result)) (replicate 128 (ofBits binary64 13876516240719085568))) (take ((c .before .before .before .before .before .before .before .before .before .before .before .before .before .before .before .before .before .before .before .before .before .before .before .before .before .item5 .result)) (replicate 128 165)) (take ((c .before .before .before .before .before .before .before .before .before .before .before .before .before .before .before .before .before .before .before .before .before .before .before .item6 .result)) (replicate 128 2779096485)) (take ((c .before .before .before .before .before .before .before .before .before .before .before .before .before .before .before .before .before .before .before .before .before .item7 .result)) (replicate 128 (ofBits binary64 13876516240719085568))) (take ((c .before .before .before .before .before .before .before .before .before .before .before .before .before .before .before .before .before .before .before .item8 .result)) (replicate 160 13876516240719085568)))
+    (buffers ((c .before .before .before .before .before .before .before .before .before .before .before .before .before .before .before .before .before .assemble .last) .1 .1 .1 .1 .1 .1 .0) ((c .before .before .before .before .before .before .before .before .before .before .before .before .before .before .before .before .before .assemble .last) .1 .1 .1 .1 .1 .1 .1 .0) ((c .before .before .before .before .before .before .before .before .before .before .before .before .before .before .before .before .before .assemble .last) .1 .1 .1 .1 .1 .1 .1 .1 .0) ((c .before .before .before .before .before .before .before .before .before .before .before .before .before .before .before .before .before .assemble .last) .1 .1 .1 .1 .1 .1 .1 .1 .1 .0) ((c .before .before .before .before .before .before .before .before .before .before .before .before .before .before .before .before .before .assemble .last) .1 .1 .1 .1 .1 .1 .1 .1 .1 .1 .0) ((c .before .before .before .before .before .before .before .before .before .before .before .before .before .before .before .before .before .assemble .last) .1 .1 .1 .1 .1 .1 .1 .1 .1 .1 .1 .0) ((c .before .before .before .before .before .before .before .before .before .before .before .before .before .before .before .before .before .assemble .last) .1 .1 .1 .1 .1 .1 .1 .1 .1 .1 .1 .1 .0) ((c .before .before .before .before .before .before .before .before .before .before .before .before .before .before .before .before .before .assemble .last) .1 .1 .1 .1 .1 .1 .1 .1 .1 .1 .1 .1 .1 .0))
+    (buffers (drop ((c .before .before .before .before .before .before .before .before .before .before .before .before .before .before .before .before .before .before .before .before .before .before .before .before .before .before .before .before .before .before .before .before .before .item .result)) (replicate 128 2779096485)) (drop ((c .before .before .before .before .before .before .before .before .before .before .before .before .before .before .before .before .before .before .before .before .before .before .before .before .before .before .before .before .before .before .before .item2 .result)) (replicate 128 2779096485)) (drop ((c .before .before .before .before .before .before .before .before .before .before .before .before .before .before .before .before .before .before .before .before .before .before .before .before .before .before .before .before .before .item3 .result)) (replicate 128 (ofBits binary64 13876516240719085568))) (drop ((c .before .before .before .before .before .before .before .before .before .before .before .before .before .before .before .before .before .before .before .before .before .before .before .before .before .before .before .item4 .result)) (replicate 128 (ofBits binary64 13876516240719085568))) (drop ((c .before .before .before .before .before .before .before .before .before .before .before .before .before .before .before .before .before .before .before .before .before .before .before .before .before .item5 .result)) (replicate 128 165)) (drop ((c .before .before .before .before .before .before .before .before .before .before .before .before .before .before .before .before .before .before .before .before .before .before .before .item6 .result)) (replicate 128 2779096485)) (drop ((c .before .before .before .before .before .before .before .before .before .before .before .before .before .before .before .before .before .before .before .before .before .item7 .result)) (replicate 128 (ofBits binary64 13876516240719085568))) (drop ((c .before .before .before .before .before .before .before .before .before .before .before .before .before .before .before .before .before .before .before .item8 .result)) (replicate 160 13876516240719085568)))
     (c .before .before .before .before .before .before .before .before .before .before .before .before .before .before .before .before .before .before .before .before .before .before .before .before .before .before .before .before .before .before .before .before .before .before .before .pre)
     (record { rows-lent = lent 2779096485 128 _ _ _ (c .before .before .before .before .before .before .before .before .before .before .before .before .before .before .before .before .before .before .before .before .before .before .before .before .before .before .before .before .before .before .before .before .before .item .ensures) ((c .before .before .before .before .before .before .before .before .before .before .before .before .before .before .before .before .before .before .before .before .before .before .before .before .before .before .before .before .before .before .before .before .before .before .before .pre) .rows-fit) ((c .before .before .before .before .before .before .before .before .before .before .before .before .before .before .before .before .before .assemble .kept) .1 .1 .1 .1 .1 .1 .0); columns-lent = lent 2779096485 128 _ _ _ (c .before .before .before .before .before .before .before .before .before .before .before .before .before .before .before .before .before .before .before .before .before .before .before .before .before .before .before .before .before .before .before .item2 .ensures) ((c .before .before .before .before .before .before .before .before .before .before .before .before .before .before .before .before .before .before .before .before .before .before .before .before .before .before .before .before .before .before .before .before .before .before .before .pre) .columns-fit) ((c .before .before .before .before .before .before .before .before .before .before .before .before .before .before .before .before .before .assemble .kept) .1 .1 .1 .1 .1 .1 .1 .0); values-lent = lent (ofBits binary64 13876516240719085568) 128 _ _ _ (c .before .before .before .before .before .before .before .before .before .before .before .before .before .before .before .before .before .before .before .before .before .before .before .before .before .before .before .before .before .item3 .ensures) ((c .before .before .before .before .before .before .before .before .before .before .before .before .before .before .before .before .before .before .before .before .before .before .before .before .before .before .before .before .before .before .before .before .before .before .before .pre) .values-fit) ((c .before .before .before .before .before .before .before .before .before .before .before .before .before .before .before .before .before .assemble .kept) .1 .1 .1 .1 .1 .1 .1 .1 .0); right-lent = lent (ofBits binary64 13876516240719085568) 128 _ _ _ (c .before .before .before .before .before .before .before .before .before .before .before .before .before .before .before .before .before .before .before .before .before .before .before .before .before .before .before .item4 .ensures) ((c .before .before .before .before .before .before .before .before .before .before .before .before .before .before .before .before .before .before .before .before .before .before .before .before .before .before .before .before .before .before .before .before .before .before .before .pre) .right-fit) ((c .before .before .before .before .before .before .before .before .before .before .before .before .before .before .before .before .before .assemble .kept) .1 .1 .1 .1 .1 .1 .1 .1 .1 .0); kinds-lent = lent 165 128 _ _ _ (c .before .before .before .before .before .before .before .before .before .before .before .before .before .before .before .before .before .before .before .before .before .before .before .before .before .item5 .ensures) ((c .before .before .before .before .before .before .before .before .before .before .before .before .before .before .before .before .before .before .before .before .before .before .before .before .before .before .before .before .before .before .before .before .before .before .before .pre) .kinds-fit) ((c .before .before .before .before .before .before .before .before .before .before .before .before .before .before .before .before .before .assemble .kept) .1 .1 .1 .1 .1 .1 .1 .1 .1 .1 .0); dimensions-lent = lent 2779096485 128 _ _ _ (c .before .before .before .before .before .before .before .before .before .before .before .before .before .before .before .before .before .before .before .before .before .before .before .item6 .ensures) ((c .before .before .before .before .before .before .before .before .before .before .before .before .before .before .before .before .before .before .before .before .before .before .before .before .before .before .before .before .before .before .before .before .before .before .before .pre) .dimensions-fit) ((c .before .before .before .before .before .before .before .before .before .before .before .before .before .before .before .before .before .assemble .kept) .1 .1 .1 .1 .1 .1 .1 .1 .1 .1 .1 .0); cost-lent = lent (ofBits binary64 13876516240719085568) 128 _ _ _ (c .before .before .before .before .before .before .before .before .before .before .before .before .before .before .before .before .before .before .before .before .before .item7 .ensures) ((c .before .before .before .before .before .before .before .before .before .before .before .before .before .before .before .before .before .before .before .before .before .before .before .before .before .before .before .before .before .before .before .before .before .before .before .pre) .cost-fit) ((c .before .before .before .before .before .before .before .before .before .before .before .before .before .before .before .before .before .assemble .kept) .1 .1 .1 .1 .1 .1 .1 .1 .1 .1 .1 .1 .0); index-lent = lent 13876516240719085568 160 _ _ _ (c .before .before .before .before .before .before .before .before .before .before .before .before .before .before .before .before .before .before .before .item8 .ensures) ((c .before .before .before .before .before .before .before .before .before .before .before .before .before .before .before .before .before .before .before .before .before .before .before .before .before .before .before .before .before .before .before .before .before .before .before .pre) .index-fit) ((c .before .before .before .before .before .before .before .before .before .before .before .before .before .before .before .before .before .assemble .kept) .1 .1 .1 .1 .1 .1 .1 .1 .1 .1 .1 .1 .1 .0) })
     (c .before .before .before .before .before .before .before .before .before .before .before .before .before .before .before .before .before .assemble .ensures) ((c .result-agrees .ensures) e)
