@@ -8,6 +8,7 @@ use Rattle.model.specs.Numbers.{at, _⊕_, _⊖_, _⊗_}
 use Rattle.model.specs.Lists.{total}
 use Rattle.model.specs.Problem.{Acceleration, Jerk}
 use Rattle.model.specs.Program.{Band, band, cell}
+use Rattle.buffers.specs.Bounds.{mostRows}
 use Rattle.acc_jerk.specs.declared.Form.{Form}
 use Rattle.acc_jerk.specs.declared.Form.the-variants.{Back, Here, Ahead, Next}
 
@@ -19,7 +20,7 @@ jerkOf cs a b c h = record { counts = cs; a = a; b = b; c = c; max = h }
 
 -- what refusals 15 and 16 leave
 abbrev pub Few : List ℕ → Type 0
-Few cs = (k : ℕ) → getD cs k 0 ≤ 256
+Few cs = (k : ℕ) → getD cs k 0 ≤ mostRows
 
 abbrev pub AccSized : List Float → List ℕ → List Float → List Float → List Float → Type 0
 AccSized s cs a b h = (length cs ≡ length s) × (total cs ≡ length a) × (length b ≡ length a) × (length h ≡ length a)
@@ -34,10 +35,7 @@ jerkValue Here b c r = b ⊕ c ⊗ r
 jerkValue Ahead b c r = b ⊖ c ⊗ r
 jerkValue Next b c r = c ⊗ r
 
--- a band of two or three columns whose numbers stand in tables from o on
-abbrev pub accBand : List Float → List Float → List Float → ℕ → ℕ → ℕ → ℕ → Band
-accBand a b h o count ca cb = band count (λ i. at h (o + i)) ((λ i. cell ca (at a (o + i))) ∷ (λ i. cell cb (at b (o + i))) ∷ [])
-
+-- a band of three columns whose numbers stand in tables from o on
 abbrev pub jerkBand : List Float → List Float → List Float → List Float → ℕ → ℕ → Float → ℕ → ℕ → Form → ℕ → Form → Band
 jerkBand a b c h o count r c1 c2 f c3 g =
     band count (λ i. at h (o + i))

@@ -1,19 +1,22 @@
 // Acceleration and jerk rows.
 
 ghost use mathlib.Core.Path.{_≡_};
-ghost use mathlib.Core.List.{List, [], _∷_, _++_};
-ghost use Prim.Native.Nat.{ℕ, _+_, _-_, _*_, _^_, _<_, _≤_};
-ghost use lib.Ieee.{Float, neg};
+ghost use mathlib.Core.List.{[], _∷_};
+ghost use Prim.Native.Nat.{_+_, _-_, _*_, _^_, _<_, _≤_};
 ghost use lib.Dec.{ltb};
 ghost use lib.ListN.{length, getD, take};
+ghost use Rattle.model.specs.Lent.{atEntry};
 ghost use Rattle.model.specs.Numbers.{at};
 ghost use Rattle.model.specs.Lists.{list, over, given, total};
-ghost use Rattle.model.specs.Problem.{n, m, stop};
+ghost use Rattle.model.specs.Problem.{m, stop};
 ghost use Rattle.model.specs.Program.{cell};
 ghost use Rattle.model.specs.Standard.{accelerationRows, backwardRows, forwardRows, jerkRowsAt};
-ghost use Rattle.acc_jerk.specs.Tables.{accOf, jerkOf, Few, AccSized, JerkSized, jerkValue, accBand, jerkBand};
+ghost use Rattle.acc_jerk.specs.Tables.{accOf, jerkOf, Few, AccSized, JerkSized, jerkValue, jerkBand};
+ghost use Rattle.buffers.specs.Bounds.{mostRows, accelerationRoom, jerkRoomAt, jerkRoom};
 ghost use Rattle.buffers.specs.Lent.{Room, fills, wrote};
 ghost use Rattle.buffers.specs.Inputs.{path, Sized};
+use columns::column_a;
+use columns::column_b;
 use model::Column;
 use model::Ends;
 use model::Row;
@@ -23,7 +26,7 @@ use model::Term;
 // Where station k's part of the tables begins.
 pub fn offset(counts: &[u32], k: usize) -> usize
     requires { ⌜ (k ≤ length (now counts)) × (total (now counts) < 2 ^ 64) ⌝ }
-    ensures { λ r. ⌜ r ≡ total (take k (now (counts .entry))) ⌝ }
+    ensures { λ r. ⌜ r ≡ total (take k (atEntry counts)) ⌝ }
 {
     let mut sum = 0;
     for i in 0..k {
@@ -36,69 +39,77 @@ pub fn offset(counts: &[u32], k: usize) -> usize
 fn acceleration_at(
     t: Tally,
     rows: &mut [u32],
-    cols: &mut [u32],
-    vals: &mut [f64],
+    columns: &mut [u32],
+    values: &mut [f64],
     right: &mut [f64],
-    s: &[f64],
-    e: Ends,
-    counts: &[u32],
-    aa: &[f64],
-    ab: &[f64],
-    ah: &[f64],
+    grid: &[f64],
+    ends: Ends,
+    acc_rows: &[u32],
+    acc_a: &[f64],
+    acc_b: &[f64],
+    acc_max: &[f64],
     k: usize,
     from: usize,
 ) -> Tally
-    requires { ⌜ Room t 256 × Sized (now s) e × AccSized (now s) (now counts) (now aa) (now ab) (now ah) × (from ≡ total (take k (now counts))) × (k < length (now s)) × (getD (now counts) k 0 ≤ 256) × (from + getD (now counts) k 0 ≤ length (now aa)) ⌝ }
-    ensures { λ r. ⌜ wrote t rows cols vals right r (accelerationRows (path (now (s .entry)) e) (accOf (now (counts .entry)) (now (aa .entry)) (now (ab .entry)) (now (ah .entry))) k ∷ []) 256 ⌝ }
+    requires { ⌜ Room t mostRows × Sized (now grid) ends × AccSized (now grid) (now «acc_rows») (now «acc_a») (now «acc_b») (now «acc_max») × (from ≡ total (take k (now «acc_rows»))) × (k < length (now grid)) × (getD (now «acc_rows») k 0 ≤ mostRows) × (from + getD (now «acc_rows») k 0 ≤ length (now «acc_a»)) ⌝ }
+    ensures { λ r. ⌜ wrote t rows columns values right r (accelerationRows (path (atEntry grid) ends) (accOf (atEntry «acc_rows») (atEntry «acc_a») (atEntry «acc_b») (atEntry «acc_max»)) k ∷ []) mostRows ⌝ }
 {
-    let count = buffers::wide(counts[k]);
-    let row = Row { at: t.rows };
-    let u = buffers::column_table(t, rows, cols, vals, row, Column { at: k }, aa, from, count);
-    let b = Column {
-        at: s.len() - 1 + 1 + k,
-    };
-    let u = buffers::column_table(u, rows, cols, vals, row, b, ab, from, count);
-    buffers::right_table(u, right, ah, from, count)
+    let count = buffers::wide(acc_rows[k]);
+    let row = t.rows;
+    let u = buffers::column_table(
+        t,
+        rows,
+        columns,
+        values,
+        row,
+        column_a(k),
+        acc_a,
+        from,
+        count,
+    );
+    let b = column_b(grid, k);
+    let u = buffers::column_table(u, rows, columns, values, row, b, acc_b, from, count);
+    buffers::right_table(u, right, acc_max, from, count)
 }
 
 // The acceleration rows of the stations that move on both sides.
 pub fn clarabel_2order_constraint_topp3(
     t: Tally,
     rows: &mut [u32],
-    cols: &mut [u32],
-    vals: &mut [f64],
+    columns: &mut [u32],
+    values: &mut [f64],
     right: &mut [f64],
-    s: &[f64],
-    e: Ends,
-    counts: &[u32],
-    aa: &[f64],
-    ab: &[f64],
-    ah: &[f64],
+    grid: &[f64],
+    ends: Ends,
+    acc_rows: &[u32],
+    acc_a: &[f64],
+    acc_b: &[f64],
+    acc_max: &[f64],
 ) -> Tally
-    requires { ⌜ Room t (256 * length (now s)) × Sized (now s) e × AccSized (now s) (now counts) (now aa) (now ab) (now ah) × Few (now counts) ⌝ }
-    ensures { λ r. ⌜ wrote t rows cols vals right r (list (accelerationRows (path (now (s .entry)) e) (accOf (now (counts .entry)) (now (aa .entry)) (now (ab .entry)) (now (ah .entry)))) (e .n0 + 1) (m (path (now (s .entry)) e) - 1)) (256 * length (now (s .entry))) ⌝ }
+    requires { ⌜ Room t (accelerationRoom (length (now grid))) × Sized (now grid) ends × AccSized (now grid) (now «acc_rows») (now «acc_a») (now «acc_b») (now «acc_max») × Few (now «acc_rows») ⌝ }
+    ensures { λ r. ⌜ wrote t rows columns values right r (list (accelerationRows (path (atEntry grid) ends) (accOf (atEntry «acc_rows») (atEntry «acc_a») (atEntry «acc_b») (atEntry «acc_max»))) (ends .n0 + 1) (m (path (atEntry grid) ends) - 1)) (accelerationRoom (length (atEntry grid))) ⌝ }
 {
-    let count = s.len() - 1 - e.n0 - e.n1 - 1;
-    let mut from = offset(counts, e.n0 + 1);
+    let count = grid.len() - 1 - ends.n0 - ends.n1 - 1;
+    let mut from = offset(acc_rows, ends.n0 + 1);
     let mut u = t;
     for i in 0..count {
-        let k = e.n0 + 1 + i;
+        let k = ends.n0 + 1 + i;
         u = acceleration_at(
             u,
             rows,
-            cols,
-            vals,
+            columns,
+            values,
             right,
-            s,
-            e,
-            counts,
-            aa,
-            ab,
-            ah,
+            grid,
+            ends,
+            acc_rows,
+            acc_a,
+            acc_b,
+            acc_max,
             k,
             from,
         );
-        from = from + buffers::wide(counts[k]);
+        from = from + buffers::wide(acc_rows[k]);
     }
     u
 }
@@ -132,29 +143,29 @@ pub struct Part {
 fn column_jerk(
     t: Tally,
     rows: &mut [u32],
-    cols: &mut [u32],
-    vals: &mut [f64],
+    columns: &mut [u32],
+    values: &mut [f64],
     row: Row,
     col: Column,
     form: Form,
-    jb: &[f64],
-    jc: &[f64],
+    jerk_b: &[f64],
+    jerk_c: &[f64],
     p: Part,
     r: f64,
 ) -> Tally
-    requires { ⌜ (t .entries + p .count < 2 ^ 64) × (row .at + p .count ≤ 2 ^ 32) × (col .at < 2 ^ 32) × (p .from + p .count ≤ length (now jb)) × (length (now jc) ≡ length (now jb)) ⌝ }
-    ensures { λ u. ⌜ fills t rows cols vals u (row .at) (λ i. cell (col .at) (jerkValue form (at (now (jb .entry)) (p .from + i)) (at (now (jc .entry)) (p .from + i)) r)) (p .count) ⌝ }
+    requires { ⌜ (t .entries + p .count < 2 ^ 64) × (row .at + p .count ≤ 2 ^ 32) × (col .at < 2 ^ 32) × (p .from + p .count ≤ length (now «jerk_b»)) × (length (now «jerk_c») ≡ length (now «jerk_b»)) ⌝ }
+    ensures { λ u. ⌜ fills t rows columns values u (row .at) (λ i. cell (col .at) (jerkValue form (at (atEntry «jerk_b») (p .from + i)) (at (atEntry «jerk_c») (p .from + i)) r)) (p .count) ⌝ }
 {
     let mut u = t;
     let count = p.count;
     for i in 0..count {
         let k = p.from + i;
-        let v = jerk_value(form, jb[k], jc[k], r);
+        let v = jerk_value(form, jerk_b[k], jerk_c[k], r);
         u = buffers::put(
             u,
             rows,
-            cols,
-            vals,
+            columns,
+            values,
             Row { at: row.at + i },
             Term { col: col, v: v },
         );
@@ -175,72 +186,108 @@ pub struct Three {
 fn group(
     t: Tally,
     rows: &mut [u32],
-    cols: &mut [u32],
-    vals: &mut [f64],
+    columns: &mut [u32],
+    values: &mut [f64],
     right: &mut [f64],
-    ja: &[f64],
-    jb: &[f64],
-    jc: &[f64],
-    jh: &[f64],
+    jerk_a: &[f64],
+    jerk_b: &[f64],
+    jerk_c: &[f64],
+    jerk_max: &[f64],
     p: Part,
     r: f64,
     w: Three,
 ) -> Tally
-    requires { ⌜ Room t 256 × (length (now jb) ≡ length (now ja)) × (length (now jc) ≡ length (now ja)) × (length (now jh) ≡ length (now ja)) × (p .from + p .count ≤ length (now ja)) × (p .count ≤ 256) × (w .first .at < 2 ^ 32) × (w .second .at < 2 ^ 32) × (w .third .at < 2 ^ 32) ⌝ }
-    ensures { λ u. ⌜ wrote t rows cols vals right u (jerkBand (now (ja .entry)) (now (jb .entry)) (now (jc .entry)) (now (jh .entry)) (p .from) (p .count) r (w .first .at) (w .second .at) (w .f) (w .third .at) (w .g) ∷ []) 256 ⌝ }
+    requires { ⌜ Room t mostRows × (length (now «jerk_b») ≡ length (now «jerk_a»)) × (length (now «jerk_c») ≡ length (now «jerk_a»)) × (length (now «jerk_max») ≡ length (now «jerk_a»)) × (p .from + p .count ≤ length (now «jerk_a»)) × (p .count ≤ mostRows) × (w .first .at < 2 ^ 32) × (w .second .at < 2 ^ 32) × (w .third .at < 2 ^ 32) ⌝ }
+    ensures { λ u. ⌜ wrote t rows columns values right u (jerkBand (atEntry «jerk_a») (atEntry «jerk_b») (atEntry «jerk_c») (atEntry «jerk_max») (p .from) (p .count) r (w .first .at) (w .second .at) (w .f) (w .third .at) (w .g) ∷ []) mostRows ⌝ }
 {
-    let row = Row { at: t.rows };
+    let row = t.rows;
     let f = w.f;
     let g = w.g;
-    let u = buffers::column_table(t, rows, cols, vals, row, w.first, ja, p.from, p.count);
-    let u = column_jerk(u, rows, cols, vals, row, w.second, f, jb, jc, p, r);
-    let u = column_jerk(u, rows, cols, vals, row, w.third, g, jb, jc, p, r);
-    buffers::right_table(u, right, jh, p.from, p.count)
+    let u = buffers::column_table(
+        t,
+        rows,
+        columns,
+        values,
+        row,
+        w.first,
+        jerk_a,
+        p.from,
+        p.count,
+    );
+    let u = column_jerk(
+        u,
+        rows,
+        columns,
+        values,
+        row,
+        w.second,
+        f,
+        jerk_b,
+        jerk_c,
+        p,
+        r,
+    );
+    let u = column_jerk(
+        u,
+        rows,
+        columns,
+        values,
+        row,
+        w.third,
+        g,
+        jerk_b,
+        jerk_c,
+        p,
+        r,
+    );
+    buffers::right_table(u, right, jerk_max, p.from, p.count)
 }
 
 // The backward group of station k, unless it is the first.
 fn backward(
     t: Tally,
     rows: &mut [u32],
-    cols: &mut [u32],
-    vals: &mut [f64],
+    columns: &mut [u32],
+    values: &mut [f64],
     right: &mut [f64],
-    s: &[f64],
-    e: Ends,
-    counts: &[u32],
-    ja: &[f64],
-    jb: &[f64],
-    jc: &[f64],
-    jh: &[f64],
+    grid: &[f64],
+    ends: Ends,
+    jerk_rows: &[u32],
+    jerk_a: &[f64],
+    jerk_b: &[f64],
+    jerk_c: &[f64],
+    jerk_max: &[f64],
     k: usize,
     from: usize,
 ) -> Tally
-    requires { ⌜ Room t 256 × Sized (now s) e × JerkSized (now s) (now counts) (now ja) (now jb) (now jc) (now jh) × (from ≡ total (take k (now counts))) × (k < length (now s)) × (getD (now counts) k 0 ≤ 256) × (from + getD (now counts) k 0 ≤ length (now ja)) ⌝ }
-    ensures { λ r. ⌜ wrote t rows cols vals right r (given (ltb (e .n0) k) (backwardRows (path (now (s .entry)) e) (jerkOf (now (counts .entry)) (now (ja .entry)) (now (jb .entry)) (now (jc .entry)) (now (jh .entry))) k ∷ [])) 256 ⌝ }
+    requires { ⌜ Room t mostRows × Sized (now grid) ends × JerkSized (now grid) (now «jerk_rows») (now «jerk_a») (now «jerk_b») (now «jerk_c») (now «jerk_max») × (from ≡ total (take k (now «jerk_rows»))) × (k < length (now grid)) × (getD (now «jerk_rows») k 0 ≤ mostRows) × (from + getD (now «jerk_rows») k 0 ≤ length (now «jerk_a»)) ⌝ }
+    ensures { λ r. ⌜ wrote t rows columns values right r (given (ltb (ends .n0) k) (backwardRows (path (atEntry grid) ends) (jerkOf (atEntry «jerk_rows») (atEntry «jerk_a») (atEntry «jerk_b») (atEntry «jerk_c») (atEntry «jerk_max»)) k ∷ [])) mostRows ⌝ }
 {
-    if k <= e.n0 {
+    if k <= ends.n0 {
         return t;
     }
-    let count = buffers::wide(counts[k]);
-    let r = 1.0 / buffers::spacing(s, k - 1);
-    let nb = s.len() - 1 + 1;
+    let count = buffers::wide(jerk_rows[k]);
+    let r = 1.0 / buffers::spacing(grid, k - 1);
+    let a = column_a(k);
+    let b0 = column_b(grid, k - 1);
+    let b = column_b(grid, k);
     let w = Three {
-        first: Column { at: k },
-        second: Column { at: nb + (k - 1) },
+        first: a,
+        second: b0,
         f: Form::Back,
-        third: Column { at: nb + k },
+        third: b,
         g: Form::Here,
     };
     group(
         t,
         rows,
-        cols,
-        vals,
+        columns,
+        values,
         right,
-        ja,
-        jb,
-        jc,
-        jh,
+        jerk_a,
+        jerk_b,
+        jerk_c,
+        jerk_max,
         Part { from, count },
         r,
         w,
@@ -251,45 +298,47 @@ fn backward(
 fn forward(
     t: Tally,
     rows: &mut [u32],
-    cols: &mut [u32],
-    vals: &mut [f64],
+    columns: &mut [u32],
+    values: &mut [f64],
     right: &mut [f64],
-    s: &[f64],
-    e: Ends,
-    counts: &[u32],
-    ja: &[f64],
-    jb: &[f64],
-    jc: &[f64],
-    jh: &[f64],
+    grid: &[f64],
+    ends: Ends,
+    jerk_rows: &[u32],
+    jerk_a: &[f64],
+    jerk_b: &[f64],
+    jerk_c: &[f64],
+    jerk_max: &[f64],
     k: usize,
     from: usize,
 ) -> Tally
-    requires { ⌜ Room t 256 × Sized (now s) e × JerkSized (now s) (now counts) (now ja) (now jb) (now jc) (now jh) × (from ≡ total (take k (now counts))) × (k < length (now s)) × (getD (now counts) k 0 ≤ 256) × (from + getD (now counts) k 0 ≤ length (now ja)) ⌝ }
-    ensures { λ r. ⌜ wrote t rows cols vals right r (given (ltb k (stop (path (now (s .entry)) e))) (forwardRows (path (now (s .entry)) e) (jerkOf (now (counts .entry)) (now (ja .entry)) (now (jb .entry)) (now (jc .entry)) (now (jh .entry))) k ∷ [])) 256 ⌝ }
+    requires { ⌜ Room t mostRows × Sized (now grid) ends × JerkSized (now grid) (now «jerk_rows») (now «jerk_a») (now «jerk_b») (now «jerk_c») (now «jerk_max») × (from ≡ total (take k (now «jerk_rows»))) × (k < length (now grid)) × (getD (now «jerk_rows») k 0 ≤ mostRows) × (from + getD (now «jerk_rows») k 0 ≤ length (now «jerk_a»)) ⌝ }
+    ensures { λ r. ⌜ wrote t rows columns values right r (given (ltb k (stop (path (atEntry grid) ends))) (forwardRows (path (atEntry grid) ends) (jerkOf (atEntry «jerk_rows») (atEntry «jerk_a») (atEntry «jerk_b») (atEntry «jerk_c») (atEntry «jerk_max»)) k ∷ [])) mostRows ⌝ }
 {
-    if s.len() - 1 - e.n1 <= k {
+    if grid.len() - 1 - ends.n1 <= k {
         return t;
     }
-    let count = buffers::wide(counts[k]);
-    let r = 1.0 / buffers::spacing(s, k);
-    let nb = s.len() - 1 + 1;
+    let count = buffers::wide(jerk_rows[k]);
+    let r = 1.0 / buffers::spacing(grid, k);
+    let a = column_a(k);
+    let b = column_b(grid, k);
+    let b1 = column_b(grid, k + 1);
     let w = Three {
-        first: Column { at: k },
-        second: Column { at: nb + k },
+        first: a,
+        second: b,
         f: Form::Ahead,
-        third: Column { at: nb + (k + 1) },
+        third: b1,
         g: Form::Next,
     };
     group(
         t,
         rows,
-        cols,
-        vals,
+        columns,
+        values,
         right,
-        ja,
-        jb,
-        jc,
-        jh,
+        jerk_a,
+        jerk_b,
+        jerk_c,
+        jerk_max,
         Part { from, count },
         r,
         w,
@@ -300,51 +349,51 @@ fn forward(
 fn jerk_at(
     t: Tally,
     rows: &mut [u32],
-    cols: &mut [u32],
-    vals: &mut [f64],
+    columns: &mut [u32],
+    values: &mut [f64],
     right: &mut [f64],
-    s: &[f64],
-    e: Ends,
-    counts: &[u32],
-    ja: &[f64],
-    jb: &[f64],
-    jc: &[f64],
-    jh: &[f64],
+    grid: &[f64],
+    ends: Ends,
+    jerk_rows: &[u32],
+    jerk_a: &[f64],
+    jerk_b: &[f64],
+    jerk_c: &[f64],
+    jerk_max: &[f64],
     k: usize,
     from: usize,
 ) -> Tally
-    requires { ⌜ Room t 512 × Sized (now s) e × JerkSized (now s) (now counts) (now ja) (now jb) (now jc) (now jh) × (from ≡ total (take k (now counts))) × (k < length (now s)) × (getD (now counts) k 0 ≤ 256) × (from + getD (now counts) k 0 ≤ length (now ja)) ⌝ }
-    ensures { λ r. ⌜ wrote t rows cols vals right r (jerkRowsAt (path (now (s .entry)) e) (jerkOf (now (counts .entry)) (now (ja .entry)) (now (jb .entry)) (now (jc .entry)) (now (jh .entry))) k) 512 ⌝ }
+    requires { ⌜ Room t jerkRoomAt × Sized (now grid) ends × JerkSized (now grid) (now «jerk_rows») (now «jerk_a») (now «jerk_b») (now «jerk_c») (now «jerk_max») × (from ≡ total (take k (now «jerk_rows»))) × (k < length (now grid)) × (getD (now «jerk_rows») k 0 ≤ mostRows) × (from + getD (now «jerk_rows») k 0 ≤ length (now «jerk_a»)) ⌝ }
+    ensures { λ r. ⌜ wrote t rows columns values right r (jerkRowsAt (path (atEntry grid) ends) (jerkOf (atEntry «jerk_rows») (atEntry «jerk_a») (atEntry «jerk_b») (atEntry «jerk_c») (atEntry «jerk_max»)) k) jerkRoomAt ⌝ }
 {
     let u = backward(
         t,
         rows,
-        cols,
-        vals,
+        columns,
+        values,
         right,
-        s,
-        e,
-        counts,
-        ja,
-        jb,
-        jc,
-        jh,
+        grid,
+        ends,
+        jerk_rows,
+        jerk_a,
+        jerk_b,
+        jerk_c,
+        jerk_max,
         k,
         from,
     );
     forward(
         u,
         rows,
-        cols,
-        vals,
+        columns,
+        values,
         right,
-        s,
-        e,
-        counts,
-        ja,
-        jb,
-        jc,
-        jh,
+        grid,
+        ends,
+        jerk_rows,
+        jerk_a,
+        jerk_b,
+        jerk_c,
+        jerk_max,
         k,
         from,
     )
@@ -354,42 +403,42 @@ fn jerk_at(
 pub fn clarabel_3order_constraint_topp3(
     t: Tally,
     rows: &mut [u32],
-    cols: &mut [u32],
-    vals: &mut [f64],
+    columns: &mut [u32],
+    values: &mut [f64],
     right: &mut [f64],
-    s: &[f64],
-    e: Ends,
-    counts: &[u32],
-    ja: &[f64],
-    jb: &[f64],
-    jc: &[f64],
-    jh: &[f64],
+    grid: &[f64],
+    ends: Ends,
+    jerk_rows: &[u32],
+    jerk_a: &[f64],
+    jerk_b: &[f64],
+    jerk_c: &[f64],
+    jerk_max: &[f64],
 ) -> Tally
-    requires { ⌜ Room t (512 * length (now s)) × Sized (now s) e × JerkSized (now s) (now counts) (now ja) (now jb) (now jc) (now jh) × Few (now counts) ⌝ }
-    ensures { λ r. ⌜ wrote t rows cols vals right r (over (jerkRowsAt (path (now (s .entry)) e) (jerkOf (now (counts .entry)) (now (ja .entry)) (now (jb .entry)) (now (jc .entry)) (now (jh .entry)))) (e .n0) (m (path (now (s .entry)) e) + 1)) (512 * length (now (s .entry))) ⌝ }
+    requires { ⌜ Room t (jerkRoom (length (now grid))) × Sized (now grid) ends × JerkSized (now grid) (now «jerk_rows») (now «jerk_a») (now «jerk_b») (now «jerk_c») (now «jerk_max») × Few (now «jerk_rows») ⌝ }
+    ensures { λ r. ⌜ wrote t rows columns values right r (over (jerkRowsAt (path (atEntry grid) ends) (jerkOf (atEntry «jerk_rows») (atEntry «jerk_a») (atEntry «jerk_b») (atEntry «jerk_c») (atEntry «jerk_max»))) (ends .n0) (m (path (atEntry grid) ends) + 1)) (jerkRoom (length (atEntry grid))) ⌝ }
 {
-    let count = s.len() - 1 - e.n0 - e.n1 + 1;
-    let mut from = offset(counts, e.n0);
+    let count = grid.len() - 1 - ends.n0 - ends.n1 + 1;
+    let mut from = offset(jerk_rows, ends.n0);
     let mut u = t;
     for i in 0..count {
-        let k = e.n0 + i;
+        let k = ends.n0 + i;
         u = jerk_at(
             u,
             rows,
-            cols,
-            vals,
+            columns,
+            values,
             right,
-            s,
-            e,
-            counts,
-            ja,
-            jb,
-            jc,
-            jh,
+            grid,
+            ends,
+            jerk_rows,
+            jerk_a,
+            jerk_b,
+            jerk_c,
+            jerk_max,
             k,
             from,
         );
-        from = from + buffers::wide(counts[k]);
+        from = from + buffers::wide(jerk_rows[k]);
     }
     u
 }

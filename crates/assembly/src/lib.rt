@@ -4,11 +4,10 @@ ghost use mathlib.Core.Path.{_≡_};
 ghost use mathlib.Core.Bool.{not};
 ghost use Prim.Native.Nat.{_≤_};
 ghost use lib.Dec.{ltb};
-ghost use Rattle.model.specs.Problem.{problem};
 ghost use Rattle.model.specs.Verdicts.{_then_, refuse};
 ghost use Rattle.model.specs.Owners.{indexPlaces};
-ghost use Rattle.model.specs.Answers.{roomRefusal, verdictOf, assembly};
-ghost use Rattle.passes.specs.Program.{buffers, answered};
+ghost use Rattle.model.specs.Answers.{roomRefusal, verdictOf, answered, assembly};
+ghost use Rattle.model.specs.Lent.{lent, buffersBefore, buffersAfter};
 use model::Answer;
 use model::FourCounts;
 use model::Job;
@@ -59,7 +58,7 @@ fn verdict(
     lengths: [usize; 7],
     long: usize,
 ) -> Verdict
-    ensures { λ r. ⌜ r ≡ verdictOf (problem job objectives (now (grid .entry)) (now («acc_rows» .entry)) (now («jerk_rows» .entry)) (now (amax .entry)) (now («acc_a» .entry)) (now («acc_b» .entry)) (now («acc_max» .entry)) (now («jerk_a» .entry)) (now («jerk_b» .entry)) (now («jerk_c» .entry)) (now («jerk_max» .entry)) (now (thermal .entry)) (now («torque_a» .entry)) (now («torque_b» .entry)) (now («torque_g» .entry)) (now («start_roots» .entry)) (now («end_roots» .entry)) (now (pool .entry))) lengths long ⌝ }
+    ensures { λ r. ⌜ r ≡ verdictOf (lent job objectives grid «acc_rows» «jerk_rows» amax «acc_a» «acc_b» «acc_max» «jerk_a» «jerk_b» «jerk_c» «jerk_max» thermal «torque_a» «torque_b» «torque_g» «start_roots» «end_roots» pool) lengths long ⌝ }
 {
     let v = checks::check(
         job,
@@ -143,7 +142,7 @@ pub fn assemble(
     cost: &mut [f64],
     index: &mut [usize],
 ) -> Answer
-    ensures { λ r. ⌜ answered r (buffers (now (rows .exit)) (now (columns .exit)) (now (values .exit)) (now (right .exit)) (now (kinds .exit)) (now (dimensions .exit)) (now (cost .exit)) (now (index .exit))) ≡ assembly (problem job objectives (now (grid .entry)) (now («acc_rows» .entry)) (now («jerk_rows» .entry)) (now (amax .entry)) (now («acc_a» .entry)) (now («acc_b» .entry)) (now («acc_max» .entry)) (now («jerk_a» .entry)) (now («jerk_b» .entry)) (now («jerk_c» .entry)) (now («jerk_max» .entry)) (now (thermal .entry)) (now («torque_a» .entry)) (now («torque_b» .entry)) (now («torque_g» .entry)) (now («start_roots» .entry)) (now («end_roots» .entry)) (now (pool .entry))) (buffers (now (rows .entry)) (now (columns .entry)) (now (values .entry)) (now (right .entry)) (now (kinds .entry)) (now (dimensions .entry)) (now (cost .entry)) (now (index .entry))) ⌝ }
+    ensures { λ r. ⌜ answered r (buffersAfter rows columns values right kinds dimensions cost index) ≡ assembly (lent job objectives grid «acc_rows» «jerk_rows» amax «acc_a» «acc_b» «acc_max» «jerk_a» «jerk_b» «jerk_c» «jerk_max» thermal «torque_a» «torque_b» «torque_g» «start_roots» «end_roots» pool) (buffersBefore rows columns values right kinds dimensions cost index) ⌝ }
 {
     let lengths = [
         rows.len(),
@@ -214,8 +213,8 @@ pub fn assemble(
     );
     Answer::Counts {
         entries: t.entries,
-        rows: t.rows,
+        rows: t.rows.at,
         cones: t.cones,
-        columns: t.columns,
+        columns: t.columns.at,
     }
 }

@@ -1,17 +1,18 @@
 // The two halves of the assembly: the a and b columns with the standard rows, and what has columns of its own.
 
 ghost use mathlib.Core.Path.{_≡_};
-ghost use Prim.Native.Nat.{ℕ, _+_, _*_, _^_, _<_, _≤_};
+ghost use Prim.Native.Nat.{ℕ, _^_, _<_, _≤_};
 ghost use lib.Ieee.{nan};
 ghost use lib.ListN.{length, getD, take};
 ghost use Rattle.model.specs.declared.Objective.the-variants.{Time};
+ghost use Rattle.model.specs.Lent.{atEntry};
+ghost use Rattle.buffers.specs.Bounds.{standardBlockRoom, ownBlocksRoom};
 ghost use Rattle.buffers.specs.Lent.{RoomAll, built};
 ghost use Rattle.buffers.specs.Inputs.{path, Sized, torqueOf};
-ghost use Rattle.first_order.specs.Limits.{limits};
-ghost use Rattle.acc_jerk.specs.Tables.{AccSized, Few, JerkSized, accOf, jerkOf};
-ghost use Rattle.linear.specs.Charges.{Fits, abCost};
+ghost use Rattle.acc_jerk.specs.Tables.{AccSized, Few, JerkSized};
+ghost use Rattle.linear.specs.Charges.{Fits};
 ghost use Rattle.objectives.specs.Input.{lends, AllReady};
-ghost use Rattle.blocks.specs.Blocks.{standardWith, ownBlocks};
+ghost use Rattle.blocks.specs.Blocks.{standardLent, ownBlocks};
 ghost use Rattle.objectives.specs.Owned.{builtOwners};
 use buffers::put_owner;
 use model::Ends;
@@ -23,115 +24,137 @@ use stages::linear_by_value as linear;
 use stages::root_stage_by_value as root_stage;
 use stages::standard_rows_by_value as standard_rows;
 
-// The cost of the a and b columns, which Linear alone charges, and the standard rows. The buffers have the letters of crate buffers' `built`.
+// The cost of the a and b columns, which Linear alone charges, and the standard rows.
 pub fn standard_block(
     t: Tally,
-    r: &mut [u32],
-    c: &mut [u32],
-    v: &mut [f64],
-    h: &mut [f64],
-    k: &mut [u8],
-    m: &mut [u32],
-    q: &mut [f64],
+    rows: &mut [u32],
+    columns: &mut [u32],
+    values: &mut [f64],
+    right: &mut [f64],
+    kinds: &mut [u8],
+    dimensions: &mut [u32],
+    cost: &mut [f64],
     job: Job,
-    os: [Objective; 16],
-    s: &[f64],
-    ca: &[u32],
-    cj: &[u32],
+    objectives: [Objective; 16],
+    grid: &[f64],
+    acc_rows: &[u32],
+    jerk_rows: &[u32],
     amax: &[f64],
-    aa: &[f64],
-    ab: &[f64],
-    ah: &[f64],
-    ja: &[f64],
-    jb: &[f64],
-    jc: &[f64],
-    jh: &[f64],
-    r0: &[f64],
-    r1: &[f64],
+    acc_a: &[f64],
+    acc_b: &[f64],
+    acc_max: &[f64],
+    jerk_a: &[f64],
+    jerk_b: &[f64],
+    jerk_c: &[f64],
+    jerk_max: &[f64],
+    start_roots: &[f64],
+    end_roots: &[f64],
     pool: &[f64],
 ) -> Tally
-    requires { ⌜ RoomAll t (775 * length (now s) + 10) × Sized (now s) (job .ends) × (job .count ≤ 16) × ((i : ℕ) → i < job .count → Fits (now s) (job .ends) (now r0) (now r1) (now pool) (getD os i (Time nan))) × (length (now amax) ≡ length (now s)) × AccSized (now s) (now ca) (now aa) (now ab) (now ah) × Few (now ca) × JerkSized (now s) (now cj) (now ja) (now jb) (now jc) (now jh) × Few (now cj) ⌝ }
-    ensures { λ t′. ⌜ built t r c v h k m q t′ (standardWith (path (now (s .entry)) (job .ends)) (job .boundary) (limits (job .start) (job .end) (now (amax .entry))) (accOf (now (ca .entry)) (now (aa .entry)) (now (ab .entry)) (now (ah .entry))) (jerkOf (now (cj .entry)) (now (ja .entry)) (now (jb .entry)) (now (jc .entry)) (now (jh .entry))) (abCost (now (s .entry)) (job .ends) (now (r0 .entry)) (now (r1 .entry)) (now (pool .entry)) (take (job .count) os))) (775 * length (now (s .entry)) + 10) ⌝ }
+    requires { ⌜ RoomAll t (standardBlockRoom (length (now grid))) × Sized (now grid) (job .ends) × (job .count ≤ 16) × ((i : ℕ) → i < job .count → Fits (now grid) (job .ends) (now «start_roots») (now «end_roots») (now pool) (getD objectives i (Time nan))) × (length (now amax) ≡ length (now grid)) × AccSized (now grid) (now «acc_rows») (now «acc_a») (now «acc_b») (now «acc_max») × Few (now «acc_rows») × JerkSized (now grid) (now «jerk_rows») (now «jerk_a») (now «jerk_b») (now «jerk_c») (now «jerk_max») × Few (now «jerk_rows») ⌝ }
+    ensures { λ t′. ⌜ built t rows columns values right kinds dimensions cost t′ (standardLent job objectives grid «acc_rows» «jerk_rows» amax «acc_a» «acc_b» «acc_max» «jerk_a» «jerk_b» «jerk_c» «jerk_max» «start_roots» «end_roots» pool) (standardBlockRoom (length (atEntry grid))) ⌝ }
 {
-    let e = job.ends;
-    let t = linear(t, q, s, e, r0, r1, pool, os, job.count);
-    let x = job.boundary;
-    let lo = job.start;
-    let hi = job.end;
+    let ends = job.ends;
+    let t = linear(
+        t,
+        cost,
+        grid,
+        ends,
+        start_roots,
+        end_roots,
+        pool,
+        objectives,
+        job.count,
+    );
+    let boundary = job.boundary;
+    let start = job.start;
+    let end = job.end;
     standard_rows(
         t,
-        r,
-        c,
-        v,
-        h,
-        k,
-        m,
-        s,
-        e,
+        rows,
+        columns,
+        values,
+        right,
+        kinds,
+        dimensions,
+        grid,
+        ends,
         amax,
-        ca,
-        aa,
-        ab,
-        ah,
-        cj,
-        ja,
-        jb,
-        jc,
-        jh,
-        x,
-        lo,
-        hi,
+        acc_rows,
+        acc_a,
+        acc_b,
+        acc_max,
+        jerk_rows,
+        jerk_a,
+        jerk_b,
+        jerk_c,
+        jerk_max,
+        boundary,
+        start,
+        end,
     )
 }
 
 // The root stage and the objectives' own rows and columns, each an owner of its own in the index.
-// 4213765 is the root stage's bound and the objectives', for at most 4097 stations.
 pub fn objective_blocks(
     t: Tally,
-    r: &mut [u32],
-    c: &mut [u32],
-    v: &mut [f64],
-    h: &mut [f64],
-    k: &mut [u8],
-    m: &mut [u32],
-    q: &mut [f64],
+    rows: &mut [u32],
+    columns: &mut [u32],
+    values: &mut [f64],
+    right: &mut [f64],
+    kinds: &mut [u8],
+    dimensions: &mut [u32],
+    cost: &mut [f64],
     job: Job,
-    os: [Objective; 16],
-    s: &[f64],
-    y: &[f64],
-    ta: &[f64],
-    tb: &[f64],
-    tg: &[f64],
+    objectives: [Objective; 16],
+    grid: &[f64],
+    thermal: &[f64],
+    torque_a: &[f64],
+    torque_b: &[f64],
+    torque_g: &[f64],
     pool: &[f64],
-    x: &mut [usize],
+    index: &mut [usize],
 ) -> Tally
-    requires { ⌜ RoomAll t 4213765 × (t .owner < 2 ^ 31) × Sized (now s) (job .ends) × (job .count ≤ 16) × AllReady (lends (path (now s) (job .ends)) (now y) (torqueOf (job .d) (now ta) (now tb) (now tg)) (now pool)) os (job .count) ⌝ }
-    ensures { λ t′. ⌜ builtOwners t r c v h k m q x t′ (ownBlocks (lends (path (now (s .entry)) (job .ends)) (now (y .entry)) (torqueOf (job .d) (now (ta .entry)) (now (tb .entry)) (now (tg .entry))) (now (pool .entry))) (t .columns) (take (job .count) os)) 4213765 ⌝ }
+    requires { ⌜ RoomAll t ownBlocksRoom × (t .owner < 2 ^ 31) × Sized (now grid) (job .ends) × (job .count ≤ 16) × AllReady (lends (path (now grid) (job .ends)) (now thermal) (torqueOf (job .d) (now «torque_a») (now «torque_b») (now «torque_g»)) (now pool)) objectives (job .count) ⌝ }
+    ensures { λ t′. ⌜ builtOwners t rows columns values right kinds dimensions cost index t′ (ownBlocks (lends (path (atEntry grid) (job .ends)) (atEntry thermal) (torqueOf (job .d) (atEntry «torque_a») (atEntry «torque_b») (atEntry «torque_g»)) (atEntry pool)) (t .columns .at) (take (job .count) objectives)) ownBlocksRoom ⌝ }
 {
-    let e = job.ends;
+    let ends = job.ends;
     let d = job.d;
-    let n = job.count;
-    let u = root_stage(t, r, c, v, h, k, m, q, s, e, os, n);
-    let u = put_owner(t, u, x);
+    let count = job.count;
+    let u = root_stage(
+        t,
+        rows,
+        columns,
+        values,
+        right,
+        kinds,
+        dimensions,
+        cost,
+        grid,
+        ends,
+        objectives,
+        count,
+    );
+    let u = put_owner(t, u, index);
     clarabel_objective_copp3(
         u,
-        r,
-        c,
-        v,
-        h,
-        k,
-        m,
-        q,
-        s,
-        e,
-        y,
-        ta,
-        tb,
-        tg,
+        rows,
+        columns,
+        values,
+        right,
+        kinds,
+        dimensions,
+        cost,
+        grid,
+        ends,
+        thermal,
+        torque_a,
+        torque_b,
+        torque_g,
         d,
         pool,
-        os,
-        n,
-        x,
+        objectives,
+        count,
+        index,
     )
 }

@@ -5,7 +5,7 @@ use lib.ListN.{length}
 use lib.Seq.{length-sets}
 use Prim.Native.Nat.{ℕ, zero, suc, _+_}
 use native.Mathlib.Omega.{arith}
-use native.Mathlib.Nat.{add-zero, zero-add, add-suc, suc-add}
+use native.Mathlib.Nat.{add-zero, zero-add, add-suc}
 use lib.Ieee.{Float}
 use Rattle.model.specs.Lists.{list}
 use Rattle.model.specs.Program.{Cone, Block, Cell, nothing, dimension, entriesFrom, rightSides}
@@ -47,28 +47,28 @@ built-cost {s} {s′} {cs} {ys} {b} p e = subst (λ (l : List Float). Built s s�
 module _ {s s′ : State} {x : Block} {b : ℕ} (p : Built s s′ x b) where
   pub built-rows : length (s′ .rows) ≡ length (s .rows)
   unfolding emit
-  built-rows = ap (λ u. length (u .rows)) (p .says) ∙ length-sets (s .rows) (s .tally .entries) (map (λ e. e .row) (entriesFrom (s .tally .rows) (bandsOf (x .cones))))
+  built-rows = ap (λ u. length (u .rows)) (p .says) ∙ length-sets (s .rows) (s .tally .entries) (map (λ e. e .row) (entriesFrom (s .tally .rows .at) (bandsOf (x .cones))))
 
-  pub built-cols : length (s′ .cols) ≡ length (s .cols)
+  pub built-columns : length (s′ .columns) ≡ length (s .columns)
   unfolding emit
-  built-cols = ap (λ u. length (u .cols)) (p .says) ∙ length-sets (s .cols) (s .tally .entries) (map (λ e. e .column) (entriesFrom (s .tally .rows) (bandsOf (x .cones))))
+  built-columns = ap (λ u. length (u .columns)) (p .says) ∙ length-sets (s .columns) (s .tally .entries) (map (λ e. e .column) (entriesFrom (s .tally .rows .at) (bandsOf (x .cones))))
 
-  pub built-vals : length (s′ .vals) ≡ length (s .vals)
+  pub built-values : length (s′ .values) ≡ length (s .values)
   unfolding emit
-  built-vals = ap (λ u. length (u .vals)) (p .says) ∙ length-sets (s .vals) (s .tally .entries) (map (λ e. e .value) (entriesFrom (s .tally .rows) (bandsOf (x .cones))))
+  built-values = ap (λ u. length (u .values)) (p .says) ∙ length-sets (s .values) (s .tally .entries) (map (λ e. e .value) (entriesFrom (s .tally .rows .at) (bandsOf (x .cones))))
 
   pub built-right : length (s′ .right) ≡ length (s .right)
   unfolding emit
-  built-right = ap (λ u. length (u .right)) (p .says) ∙ length-sets (s .right) (s .tally .rows) (rightSides (bandsOf (x .cones)))
+  built-right = ap (λ u. length (u .right)) (p .says) ∙ length-sets (s .right) (s .tally .rows .at) (rightSides (bandsOf (x .cones)))
 
   pub built-kinds : length (s′ .kinds) ≡ length (s .kinds)
   unfolding emit
   built-kinds = ap (λ u. length (u .kinds)) (p .says) ∙ length-sets (s .kinds) (s .tally .cones) (map (λ c. c .kind) (x .cones))
 
-  pub built-dims : length (s′ .dims) ≡ length (s .dims)
+  pub built-dimensions : length (s′ .dimensions) ≡ length (s .dimensions)
   unfolding emit
-  built-dims = ap (λ u. length (u .dims)) (p .says) ∙ length-sets (s .dims) (s .tally .cones) (map dimension (x .cones))
+  built-dimensions = ap (λ u. length (u .dimensions)) (p .says) ∙ length-sets (s .dimensions) (s .tally .cones) (map dimension (x .cones))
 
   pub built-costs : length (s′ .cost) ≡ length (s .cost)
   unfolding emit
-  built-costs = ap (λ u. length (u .cost)) (p .says) ∙ length-sets (s .cost) (s .tally .columns) (x .cost)
+  built-costs = ap (λ u. length (u .cost)) (p .says) ∙ length-sets (s .cost) (s .tally .columns .at) (x .cost)

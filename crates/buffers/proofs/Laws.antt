@@ -1,9 +1,9 @@
 -- The laws of the overlay over crate model's bands, cones and blocks: one writer after another, loops, bands, cones. Assumes nothing.
 use mathlib.Core.Path.{_≡_, refl, sym, ap, subst, _∙_}
-use mathlib.Core.Bool.{Bool, true, false, _&&_, not}
+use mathlib.Core.Bool.{Bool, true, false, _&&_}
 use mathlib.Core.List.{List, [], _∷_, _++_, map, map-append, append-nil, append-assoc}
-use Prim.Native.Nat.{ℕ, zero, suc, _+_, _*_, _-_, _≤_, _<_}
-use native.Mathlib.Nat.{add-zero, zero-add, add-suc, suc-add, add-assoc, sub-self, le-refl, zero-mul, mul-zero, mul-suc, suc-mul, add-mul, mul-one, mul-pos}
+use Prim.Native.Nat.{ℕ, zero, suc, _+_, _*_, _≤_}
+use native.Mathlib.Nat.{add-zero, zero-add, add-suc, suc-add, add-assoc, le-refl, zero-mul, mul-suc, suc-mul, add-mul, mul-one}
 use native.Mathlib.Numerals.{add-one}
 use native.Mathlib.Omega.{arith}
 use lib.Ieee.{Float}
@@ -12,12 +12,12 @@ use lib.ListN.{length, set, replicate, length-append, length-map}
 use lib.Seq.{sets, length-sets}
 use Rattle.model.specs.Numbers.{finite}
 use Rattle.model.specs.Lists.{list, over, joined}
-use Rattle.model.specs.Program.{Cell, cell, Band, band, row, Cone, cone, Block, Entry, entry, dimension, bandEntries, entriesFrom, rightSides}
+use Rattle.model.specs.Program.{Cell, cell, Band, band, Cone, cone, Entry, entry, dimension, entriesFrom, rightSides}
 use Rattle.model.specs.Assembled.{allFinite}
 use Rattle.model.proofs.Shape.{heights, right-heights, entries-append, right-append}
-use Rattle.model.proofs.Sums.{length-list, joined-append}
+use Rattle.model.proofs.Sums.{joined-append}
 use Rattle.model.specs.declared.Tally.{Tally}
-use Rattle.buffers.specs.Buffers.{Chunk, chunk, none, join, bandsOf, ofBands, ofCones, ofBlock, State, state, moved, emit, Adds, Fills, Puts, Rights, FillsRight, PutsRight, Columns, Moves, Wrote, Overs, Lists, PutsCone, Steps, Closed, ClosedList, Costs, PutsCost, FillsCost, Built}
+use Rattle.buffers.specs.Buffers.{Chunk, chunk, none, join, bandsOf, ofBands, ofCones, State, state, tallyOf, emit, Adds, Fills, Puts, Rights, FillsRight, PutsRight, Columns, Wrote, Overs, Lists, PutsCone, Closed, ClosedList, Costs, PutsCost, FillsCost, Built}
 
 -- ---- lists
 
@@ -67,19 +67,13 @@ unfolding emit
 emit-emit a b s =
     λ i. record {
       rows = lay (λ e. e .row) (s .rows) (s .tally .entries) (a .entries) (b .entries) i;
-      cols = lay (λ e. e .column) (s .cols) (s .tally .entries) (a .entries) (b .entries) i;
-      vals = lay (λ e. e .value) (s .vals) (s .tally .entries) (a .entries) (b .entries) i;
-      right = sym (sets-append (s .right) (s .tally .rows) (a .right) (b .right)) i;
+      columns = lay (λ e. e .column) (s .columns) (s .tally .entries) (a .entries) (b .entries) i;
+      values = lay (λ e. e .value) (s .values) (s .tally .entries) (a .entries) (b .entries) i;
+      right = sym (sets-append (s .right) (s .tally .rows .at) (a .right) (b .right)) i;
       kinds = lay (λ c. c .kind) (s .kinds) (s .tally .cones) (a .cones) (b .cones) i;
-      dims = lay dimension (s .dims) (s .tally .cones) (a .cones) (b .cones) i;
-      cost = sym (sets-append (s .cost) (s .tally .columns) (a .cost) (b .cost)) i;
-      tally = record {
-        entries = further (s .tally .entries) (a .entries) (b .entries) i;
-        rows = further (s .tally .rows) (a .right) (b .right) i;
-        cones = further (s .tally .cones) (a .cones) (b .cones) i;
-        columns = further (s .tally .columns) (a .cost) (b .cost) i;
-        owner = s .tally .owner;
-      };
+      dimensions = lay dimension (s .dimensions) (s .tally .cones) (a .cones) (b .cones) i;
+      cost = sym (sets-append (s .cost) (s .tally .columns .at) (a .cost) (b .cost)) i;
+      tally = tallyOf (further (s .tally .entries) (a .entries) (b .entries) i) (further (s .tally .rows .at) (a .right) (b .right) i) (further (s .tally .cones) (a .cones) (b .cones) i) (further (s .tally .columns .at) (a .cost) (b .cost) i) (s .tally .owner);
     }
 
 pub emit-none : (s : State) → emit none s ≡ s
@@ -87,19 +81,13 @@ unfolding emit
 emit-none s =
     λ i. record {
       rows = s .rows;
-      cols = s .cols;
-      vals = s .vals;
+      columns = s .columns;
+      values = s .values;
       right = s .right;
       kinds = s .kinds;
-      dims = s .dims;
+      dimensions = s .dimensions;
       cost = s .cost;
-      tally = record {
-        entries = add-zero (s .tally .entries) i;
-        rows = add-zero (s .tally .rows) i;
-        cones = add-zero (s .tally .cones) i;
-        columns = add-zero (s .tally .columns) i;
-        owner = s .tally .owner;
-      };
+      tally = tallyOf (add-zero (s .tally .entries) i) (add-zero (s .tally .rows .at) i) (add-zero (s .tally .cones) i) (add-zero (s .tally .columns .at) i) (s .tally .owner);
     }
 
 join-bands : (r : ℕ) (xs ys : List Band) → join (ofBands r xs) (ofBands (r + length (rightSides xs)) ys) ≡ ofBands r (xs ++ ys)
@@ -122,19 +110,13 @@ one-entry {t} pr pc pv =
       adds = record {
         says = λ h k d q i. record {
           rows = pr i;
-          cols = pc i;
-          vals = pv i;
+          columns = pc i;
+          values = pv i;
           right = h;
           kinds = k;
-          dims = d;
+          dimensions = d;
           cost = q;
-          tally = record {
-            entries = t .entries + 1;
-            rows = sym (add-zero (t .rows)) i;
-            cones = sym (add-zero (t .cones)) i;
-            columns = sym (add-zero (t .columns)) i;
-            owner = t .owner;
-          };
+          tally = tallyOf (t .entries + 1) (sym (add-zero (t .rows .at)) i) (sym (add-zero (t .cones)) i) (sym (add-zero (t .columns .at)) i) (t .owner);
         };
       };
       entries = refl;
@@ -144,27 +126,21 @@ one-entry {t} pr pc pv =
     }
 
 pub one-right : {H : List Float} {t : Tally} {H′ : List Float} {v : Float}
-    → H′ ≡ set H (t .rows) v
-    → PutsRight t H (record { entries = t .entries; rows = t .rows + 1; cones = t .cones; columns = t .columns; owner = t .owner }) H′ v
+    → H′ ≡ set H (t .rows .at) v
+    → PutsRight t H (record { entries = t .entries; rows = record { at = t .rows .at + 1 }; cones = t .cones; columns = t .columns; owner = t .owner }) H′ v
 unfolding emit
 one-right {t} ph =
     record {
       adds = record {
         says = λ r c w k d q i. record {
           rows = r;
-          cols = c;
-          vals = w;
+          columns = c;
+          values = w;
           right = ph i;
           kinds = k;
-          dims = d;
+          dimensions = d;
           cost = q;
-          tally = record {
-            entries = sym (add-zero (t .entries)) i;
-            rows = t .rows + 1;
-            cones = sym (add-zero (t .cones)) i;
-            columns = sym (add-zero (t .columns)) i;
-            owner = t .owner;
-          };
+          tally = tallyOf (sym (add-zero (t .entries)) i) (t .rows .at + 1) (sym (add-zero (t .cones)) i) (sym (add-zero (t .columns .at)) i) (t .owner);
         };
       };
       entries = refl;
@@ -174,27 +150,21 @@ one-right {t} ph =
     }
 
 pub one-cost : {Q : List Float} {t : Tally} {Q′ : List Float} {v : Float}
-    → Q′ ≡ set Q (t .columns) v
-    → PutsCost t Q (record { entries = t .entries; rows = t .rows; cones = t .cones; columns = t .columns + 1; owner = t .owner }) Q′ v
+    → Q′ ≡ set Q (t .columns .at) v
+    → PutsCost t Q (record { entries = t .entries; rows = t .rows; cones = t .cones; columns = record { at = t .columns .at + 1 }; owner = t .owner }) Q′ v
 unfolding emit
 one-cost {t} {v} ph =
     record {
       adds = record {
         says = λ r c w h k d i. record {
           rows = r;
-          cols = c;
-          vals = w;
+          columns = c;
+          values = w;
           right = h;
           kinds = k;
-          dims = d;
+          dimensions = d;
           cost = ph i;
-          tally = record {
-            entries = sym (add-zero (t .entries)) i;
-            rows = sym (add-zero (t .rows)) i;
-            cones = sym (add-zero (t .cones)) i;
-            columns = t .columns + 1;
-            owner = t .owner;
-          };
+          tally = tallyOf (sym (add-zero (t .entries)) i) (sym (add-zero (t .rows .at)) i) (sym (add-zero (t .cones)) i) (t .columns .at + 1) (t .owner);
         };
       };
       entries = refl;
@@ -205,7 +175,7 @@ one-cost {t} {v} ph =
 
 pub one-cone : {K D : List ℕ} {t : Tally} {K′ D′ : List ℕ} {k d : ℕ} → K′ ≡ set K (t .cones) k → D′ ≡ set D (t .cones) d
     → PutsCone t K D (record { entries = t .entries; rows = t .rows; cones = t .cones + 1; columns = t .columns; owner = t .owner }) K′ D′ k d
-one-cone pk pd = record { kinds = pk; dims = pd; entries = refl; rows = refl; cones = refl; columns = refl; owner = refl }
+one-cone pk pd = record { kinds = pk; dimensions = pd; entries = refl; rows = refl; cones = refl; columns = refl; owner = refl }
 
 -- ---- entries after entries
 
@@ -224,13 +194,13 @@ module _ {t : Tally} {R C : List ℕ} {W : List Float} where
     unfolding emit
     adds-rows = ap (λ s. length (s .rows)) (a .says [] [] [] []) ∙ length-sets R (t .entries) (map (λ e. e .row) es)
 
-    pub adds-cols : length C′ ≡ length C
+    pub adds-columns : length C′ ≡ length C
     unfolding emit
-    adds-cols = ap (λ s. length (s .cols)) (a .says [] [] [] []) ∙ length-sets C (t .entries) (map (λ e. e .column) es)
+    adds-columns = ap (λ s. length (s .columns)) (a .says [] [] [] []) ∙ length-sets C (t .entries) (map (λ e. e .column) es)
 
-    pub adds-vals : length W′ ≡ length W
+    pub adds-values : length W′ ≡ length W
     unfolding emit
-    adds-vals = ap (λ s. length (s .vals)) (a .says [] [] [] []) ∙ length-sets W (t .entries) (map (λ e. e .value) es)
+    adds-values = ap (λ s. length (s .values)) (a .says [] [] [] []) ∙ length-sets W (t .entries) (map (λ e. e .value) es)
 
 module _ {t : Tally} {H : List Float} where
   pub rights-none : Rights t H t H []
@@ -245,7 +215,7 @@ module _ {t : Tally} {H : List Float} where
 
     pub rights-length : length H′ ≡ length H
     unfolding emit
-    rights-length = ap (λ s. length (s .right)) (a .says [] [] [] [] [] []) ∙ length-sets H (t .rows) xs
+    rights-length = ap (λ s. length (s .right)) (a .says [] [] [] [] [] []) ∙ length-sets H (t .rows .at) xs
 
 module _ {t : Tally} {Q : List Float} where
   pub costs-none : Costs t Q t Q []
@@ -260,7 +230,7 @@ module _ {t : Tally} {Q : List Float} where
 
     pub costs-length : length Q′ ≡ length Q
     unfolding emit
-    costs-length = ap (λ s. length (s .cost)) (a .says [] [] [] [] [] []) ∙ length-sets Q (t .columns) xs
+    costs-length = ap (λ s. length (s .cost)) (a .says [] [] [] [] [] []) ∙ length-sets Q (t .columns .at) xs
 
 -- ---- a loop that adds one a turn. Its invariant before turn i is `(i ≤ m) × Fills .. i`
 
@@ -290,15 +260,15 @@ module _ {t : Tally} {R C : List ℕ} {W : List Float} {n : ℕ} {f : ℕ → Ce
     pub fills-rows : length R′ ≡ length R
     fills-rows = adds-rows (p .adds)
 
-    pub fills-cols : length C′ ≡ length C
-    fills-cols = adds-cols (p .adds)
+    pub fills-columns : length C′ ≡ length C
+    fills-columns = adds-columns (p .adds)
 
-    pub fills-vals : length W′ ≡ length W
-    fills-vals = adds-vals (p .adds)
+    pub fills-values : length W′ ≡ length W
+    fills-values = adds-values (p .adds)
 
 module _ {t : Tally} {H : List Float} {f : ℕ → Float} where
   pub right-none : FillsRight t H t H f 0
-  right-none = record { adds = rights-none; entries = refl; rows = sym (add-zero (t .rows)); cones = refl; columns = refl }
+  right-none = record { adds = rights-none; entries = refl; rows = sym (add-zero (t .rows .at)); cones = refl; columns = refl }
 
   module _ {t′ : Tally} {H′ : List Float} {i : ℕ} (p : FillsRight t H t′ H′ f i) where
     pub right-more : {t″ : Tally} {H″ : List Float} {v : Float} → PutsRight t′ H′ t″ H″ v → v ≡ f i → FillsRight t H t″ H″ f (i + 1)
@@ -311,9 +281,6 @@ module _ {t : Tally} {H : List Float} {f : ℕ → Float} where
           columns = a .columns ∙ p .columns;
         }
 
-    pub right-as : {g : ℕ → Float} → ((j : ℕ) → f j ≡ g j) → FillsRight t H t′ H′ g i
-    right-as e = subst (λ (g : ℕ → Float). FillsRight t H t′ H′ g i) (λ x j. e j x) p
-
     pub right-all : {m : ℕ} → i ≤ m → m ≤ i → FillsRight t H t′ H′ f m
     right-all {m} h g = let e : m ≡ i = omega arith in rw e p
 
@@ -322,7 +289,7 @@ module _ {t : Tally} {H : List Float} {f : ℕ → Float} where
 
 module _ {t : Tally} {Q : List Float} {f : ℕ → Float} {k : ℕ} where
   pub cost-none : FillsCost t Q t Q f k 0
-  cost-none = record { adds = costs-none; entries = refl; rows = refl; cones = refl; columns = sym (add-zero (t .columns)) }
+  cost-none = record { adds = costs-none; entries = refl; rows = refl; cones = refl; columns = sym (add-zero (t .columns .at)) }
 
   module _ {t′ : Tally} {Q′ : List Float} {i : ℕ} (p : FillsCost t Q t′ Q′ f k i) where
     pub cost-more : {t″ : Tally} {Q″ : List Float} {v : Float} → PutsCost t′ Q′ t″ Q″ v → v ≡ f (k + i) → FillsCost t Q t″ Q″ f k (i + 1)
@@ -384,9 +351,9 @@ put-right-fills a = record { adds = a .adds; entries = a .entries; rows = a .row
 
 module _ {t : Tally} {R C : List ℕ} {W H : List Float} where
   pub band-wrote : {t′ : Tally} {R′ C′ : List ℕ} {W′ : List Float} {fs : List (ℕ → Cell)} {m : ℕ} {t″ : Tally} {H′ : List Float} {x : ℕ → Float}
-      → Columns t R C W t′ R′ C′ W′ (t .rows) fs m → FillsRight t′ H t″ H′ x m → length fs * m ≤ 5 * m → Wrote t R C W H t″ R′ C′ W′ H′ (band m x fs ∷ []) m
+      → Columns t R C W t′ R′ C′ W′ (t .rows .at) fs m → FillsRight t′ H t″ H′ x m → length fs * m ≤ 5 * m → Wrote t R C W H t″ R′ C′ W′ H′ (band m x fs ∷ []) m
   band-wrote {R′} {C′} {W′} {fs} {m} {x} a b h =
-      let es : List Entry = joined (λ f. list (λ i. entry (t .rows + i) (f i)) 0 m) fs in
+      let es : List Entry = joined (λ f. list (λ i. entry (t .rows .at + i) (f i)) 0 m) fs in
       let xs : List Float = list x 0 m in
       record {
         says = λ k d q. b .adds .says R′ C′ W′ k d q ∙ ap (emit (chunk [] xs [] [])) (a .adds .says H k d q)
@@ -397,26 +364,26 @@ module _ {t : Tally} {R C : List ℕ} {W H : List Float} where
 
   -- a row, of the puts of its cells
   pub row-wrote : {t′ : Tally} {R′ C′ : List ℕ} {W′ : List Float} {fs : List (ℕ → Cell)} {t″ : Tally} {H′ : List Float} {x : Float}
-      → Columns t R C W t′ R′ C′ W′ (t .rows) fs 1 → PutsRight t′ H t″ H′ x → length fs ≤ 5 → Wrote t R C W H t″ R′ C′ W′ H′ (band 1 (λ i. x) fs ∷ []) 1
+      → Columns t R C W t′ R′ C′ W′ (t .rows .at) fs 1 → PutsRight t′ H t″ H′ x → length fs ≤ 5 → Wrote t R C W H t″ R′ C′ W′ H′ (band 1 (λ i. x) fs ∷ []) 1
   row-wrote {fs} a b h = band-wrote a (put-right-fills b) (omega (arith, mul-one (length fs)))
 
   -- ---- bands after bands
 
   pub wrote-none : Wrote t R C W H t R C W H [] 0
-  wrote-none = record { says = λ k d q. sym (emit-none (state R C W H k d q t)); moves = record { entries = omega arith; rows = omega arith; forth = le-refl (t .rows); cones = refl; columns = refl } }
+  wrote-none = record { says = λ k d q. sym (emit-none (state R C W H k d q t)); moves = record { entries = omega arith; rows = omega arith; forth = le-refl (t .rows .at); cones = refl; columns = refl } }
 
   module _ {t′ : Tally} {R′ C′ : List ℕ} {W′ H′ : List Float} {xs : List Band} {b : ℕ} (p : Wrote t R C W H t′ R′ C′ W′ H′ xs b) where
-    pub wrote-count : t′ .rows ≡ t .rows + length (rightSides xs)
+    pub wrote-count : t′ .rows .at ≡ t .rows .at + length (rightSides xs)
     unfolding emit
-    wrote-count = ap (λ s. s .tally .rows) (p .says [] [] [])
+    wrote-count = ap (λ s. s .tally .rows .at) (p .says [] [] [])
 
     pub wrote-then : {t″ : Tally} {R″ C″ : List ℕ} {W″ H″ : List Float} {ys : List Band} {c : ℕ}
         → Wrote t′ R′ C′ W′ H′ t″ R″ C″ W″ H″ ys c → Wrote t R C W H t″ R″ C″ W″ H″ (xs ++ ys) (b + c)
     wrote-then {ys} g =
         record {
-          says = λ k d q. g .says k d q ∙ ap (emit (ofBands (t′ .rows) ys)) (p .says k d q) ∙ emit-emit (ofBands (t .rows) xs) (ofBands (t′ .rows) ys) (state R C W H k d q t)
-              ∙ ap (λ (r : ℕ). emit (join (ofBands (t .rows) xs) (ofBands r ys)) (state R C W H k d q t)) wrote-count
-              ∙ ap (λ (a : Chunk). emit a (state R C W H k d q t)) (join-bands (t .rows) xs ys);
+          says = λ k d q. g .says k d q ∙ ap (emit (ofBands (t′ .rows .at) ys)) (p .says k d q) ∙ emit-emit (ofBands (t .rows .at) xs) (ofBands (t′ .rows .at) ys) (state R C W H k d q t)
+              ∙ ap (λ (r : ℕ). emit (join (ofBands (t .rows .at) xs) (ofBands r ys)) (state R C W H k d q t)) wrote-count
+              ∙ ap (λ (a : Chunk). emit a (state R C W H k d q t)) (join-bands (t .rows .at) xs ys);
           moves = let m = p .moves in let l = g .moves in
               record { entries = omega arith; rows = omega arith; forth = omega arith; cones = l .cones ∙ m .cones; columns = l .columns ∙ m .columns };
         }
@@ -429,19 +396,19 @@ module _ {t : Tally} {R C : List ℕ} {W H : List Float} where
 
     pub wrote-rows : length R′ ≡ length R
     unfolding emit
-    wrote-rows = ap (λ s. length (s .rows)) (p .says [] [] []) ∙ length-sets R (t .entries) (map (λ e. e .row) (entriesFrom (t .rows) xs))
+    wrote-rows = ap (λ s. length (s .rows)) (p .says [] [] []) ∙ length-sets R (t .entries) (map (λ e. e .row) (entriesFrom (t .rows .at) xs))
 
-    pub wrote-cols : length C′ ≡ length C
+    pub wrote-columns : length C′ ≡ length C
     unfolding emit
-    wrote-cols = ap (λ s. length (s .cols)) (p .says [] [] []) ∙ length-sets C (t .entries) (map (λ e. e .column) (entriesFrom (t .rows) xs))
+    wrote-columns = ap (λ s. length (s .columns)) (p .says [] [] []) ∙ length-sets C (t .entries) (map (λ e. e .column) (entriesFrom (t .rows .at) xs))
 
-    pub wrote-vals : length W′ ≡ length W
+    pub wrote-values : length W′ ≡ length W
     unfolding emit
-    wrote-vals = ap (λ s. length (s .vals)) (p .says [] [] []) ∙ length-sets W (t .entries) (map (λ e. e .value) (entriesFrom (t .rows) xs))
+    wrote-values = ap (λ s. length (s .values)) (p .says [] [] []) ∙ length-sets W (t .entries) (map (λ e. e .value) (entriesFrom (t .rows .at) xs))
 
     pub wrote-right : length H′ ≡ length H
     unfolding emit
-    wrote-right = ap (λ s. length (s .right)) (p .says [] [] []) ∙ length-sets H (t .rows) (rightSides xs)
+    wrote-right = ap (λ s. length (s .right)) (p .says [] [] []) ∙ length-sets H (t .rows .at) (rightSides xs)
 
   -- where nothing is written
   pub wrote-skip : {b : ℕ} → Wrote t R C W H t R C W H [] b
@@ -458,20 +425,17 @@ module _ {t : Tally} {R C : List ℕ} {W H : List Float} where
           → Wrote t′ R′ C′ W′ H′ t″ R″ C″ W″ H″ (f (k + i)) b → Overs t R C W H t″ R″ C″ W″ H″ f k (i + 1) b
       overs-more g = record { wrote = rw (add-one, over-snoc, mul-suc) (wrote-most (wrote-then (p .wrote) g) (omega arith)) }
 
-      pub overs-as : {g : ℕ → List Band} → ((j : ℕ) → f j ≡ g j) → Overs t R C W H t′ R′ C′ W′ H′ g k i b
-      overs-as e = subst (λ (g : ℕ → List Band). Overs t R C W H t′ R′ C′ W′ H′ g k i b) (λ x j. e j x) p
-
       pub overs-all : {m c : ℕ} → i ≤ m → m ≤ i → b * m ≤ c → Wrote t R C W H t′ R′ C′ W′ H′ (over f k m) c
       overs-all {m} h g x = let e : i ≡ m = omega arith in wrote-most (subst (λ (j : ℕ). Wrote t R C W H t′ R′ C′ W′ H′ (over f k j) (b * j)) e (p .wrote)) x
 
       pub overs-rows : length R′ ≡ length R
       overs-rows = wrote-rows (p .wrote)
 
-      pub overs-cols : length C′ ≡ length C
-      overs-cols = wrote-cols (p .wrote)
+      pub overs-columns : length C′ ≡ length C
+      overs-columns = wrote-columns (p .wrote)
 
-      pub overs-vals : length W′ ≡ length W
-      overs-vals = wrote-vals (p .wrote)
+      pub overs-values : length W′ ≡ length W
+      overs-values = wrote-values (p .wrote)
 
       pub overs-right : length H′ ≡ length H
       overs-right = wrote-right (p .wrote)
@@ -491,11 +455,11 @@ module _ {t : Tally} {R C : List ℕ} {W H : List Float} where
       pub lists-rows : length R′ ≡ length R
       lists-rows = wrote-rows (p .wrote)
 
-      pub lists-cols : length C′ ≡ length C
-      lists-cols = wrote-cols (p .wrote)
+      pub lists-columns : length C′ ≡ length C
+      lists-columns = wrote-columns (p .wrote)
 
-      pub lists-vals : length W′ ≡ length W
-      lists-vals = wrote-vals (p .wrote)
+      pub lists-values : length W′ ≡ length W
+      lists-values = wrote-values (p .wrote)
 
       pub lists-right : length H′ ≡ length H
       lists-right = wrote-right (p .wrote)
@@ -510,7 +474,7 @@ overs-next {f} {i} p g = overs-more p (wrote-as g (ap f (sym (zero-add i))))
 
 module _ {t : Tally} {R C : List ℕ} {W H : List Float} {K D : List ℕ} where
   pub closes : {t′ : Tally} {R′ C′ : List ℕ} {W′ H′ : List Float} {bs : List Band} {b : ℕ} {t″ : Tally} {K′ D′ : List ℕ} {kind dim : ℕ}
-      → Wrote t R C W H t′ R′ C′ W′ H′ bs b → PutsCone t′ K D t″ K′ D′ kind dim → t .rows + dim ≡ t′ .rows → 1 ≤ b
+      → Wrote t R C W H t′ R′ C′ W′ H′ bs b → PutsCone t′ K D t″ K′ D′ kind dim → t .rows .at + dim ≡ t′ .rows .at → 1 ≤ b
       → Closed t R C W H K D t″ R′ C′ W′ H′ K′ D′ (cone kind bs ∷ []) b
   unfolding emit
   closes {t′} {R′} {C′} {W′} {H′} {bs} {b} {t″} {K′} {D′} {kind} {dim} p g e h =
@@ -518,25 +482,19 @@ module _ {t : Tally} {R C : List ℕ} {W H : List Float} {K D : List ℕ} where
       let last : (q : List Float) → state R′ C′ W′ H′ K′ D′ q t″ ≡ emit (chunk [] [] (cone kind bs ∷ []) []) (state R′ C′ W′ H′ K D q t′) =
       λ q i. record {
         rows = R′;
-        cols = C′;
-        vals = W′;
+        columns = C′;
+        values = W′;
         right = H′;
         kinds = g .kinds i;
-        dims = (g .dims ∙ ap (λ (x : ℕ). set D (t′ .cones) x) z) i;
+        dimensions = (g .dimensions ∙ ap (λ (x : ℕ). set D (t′ .cones) x) z) i;
         cost = q;
-        tally = record {
-          entries = (g .entries ∙ sym (add-zero (t′ .entries))) i;
-          rows = (g .rows ∙ sym (add-zero (t′ .rows))) i;
-          cones = g .cones i;
-          columns = (g .columns ∙ sym (add-zero (t′ .columns))) i;
-          owner = g .owner i;
-        };
+        tally = tallyOf ((g .entries ∙ sym (add-zero (t′ .entries))) i) ((g .rows ∙ sym (add-zero (t′ .rows .at))) i) (g .cones i) ((g .columns ∙ sym (add-zero (t′ .columns .at))) i) (g .owner i);
       } in
       let m = p .moves in
       record {
         says = λ q. last q ∙ ap (emit (chunk [] [] (cone kind bs ∷ []) [])) (p .says K D q)
-            ∙ emit-emit (ofBands (t .rows) bs) (chunk [] [] (cone kind bs ∷ []) []) (state R C W H K D q t)
-            ∙ (λ i. emit (chunk ((append-nil (entriesFrom (t .rows) bs) ∙ ap (entriesFrom (t .rows)) (sym (append-nil bs))) i)
+            ∙ emit-emit (ofBands (t .rows .at) bs) (chunk [] [] (cone kind bs ∷ []) []) (state R C W H K D q t)
+            ∙ (λ i. emit (chunk ((append-nil (entriesFrom (t .rows .at) bs) ∙ ap (entriesFrom (t .rows .at)) (sym (append-nil bs))) i)
             ((append-nil (rightSides bs) ∙ ap rightSides (sym (append-nil bs))) i) (cone kind bs ∷ []) []) (state R C W H K D q t));
         steps = record { entries = omega arith; rows = omega arith; cones = omega arith; columns = g .columns ∙ m .columns };
       }
@@ -545,17 +503,17 @@ module _ {t : Tally} {R C : List ℕ} {W H : List Float} {K D : List ℕ} where
   closed-none = record { says = λ q. sym (emit-none (state R C W H K D q t)); steps = record { entries = omega arith; rows = omega arith; cones = omega arith; columns = refl } }
 
   module _ {t′ : Tally} {R′ C′ : List ℕ} {W′ H′ : List Float} {K′ D′ : List ℕ} {xs : List Cone} {b : ℕ} (p : Closed t R C W H K D t′ R′ C′ W′ H′ K′ D′ xs b) where
-    pub closed-count : t′ .rows ≡ t .rows + length (rightSides (bandsOf xs))
+    pub closed-count : t′ .rows .at ≡ t .rows .at + length (rightSides (bandsOf xs))
     unfolding emit
-    closed-count = ap (λ s. s .tally .rows) (p .says [])
+    closed-count = ap (λ s. s .tally .rows .at) (p .says [])
 
     pub closed-then : {t″ : Tally} {R″ C″ : List ℕ} {W″ H″ : List Float} {K″ D″ : List ℕ} {ys : List Cone} {c : ℕ}
         → Closed t′ R′ C′ W′ H′ K′ D′ t″ R″ C″ W″ H″ K″ D″ ys c → Closed t R C W H K D t″ R″ C″ W″ H″ K″ D″ (xs ++ ys) (b + c)
     closed-then {ys} g =
         let s : List Float → State = λ q. state R C W H K D q t in
         record {
-          says = λ q. g .says q ∙ ap (emit (ofCones (t′ .rows) ys)) (p .says q) ∙ emit-emit (ofCones (t .rows) xs) (ofCones (t′ .rows) ys) (s q)
-              ∙ ap (λ (r : ℕ). emit (join (ofCones (t .rows) xs) (ofCones r ys)) (s q)) closed-count ∙ ap (λ (a : Chunk). emit a (s q)) (join-cones (t .rows) xs ys);
+          says = λ q. g .says q ∙ ap (emit (ofCones (t′ .rows .at) ys)) (p .says q) ∙ emit-emit (ofCones (t .rows .at) xs) (ofCones (t′ .rows .at) ys) (s q)
+              ∙ ap (λ (r : ℕ). emit (join (ofCones (t .rows .at) xs) (ofCones r ys)) (s q)) closed-count ∙ ap (λ (a : Chunk). emit a (s q)) (join-cones (t .rows .at) xs ys);
           steps = let m = p .steps in let l = g .steps in record { entries = omega arith; rows = omega arith; cones = omega arith; columns = l .columns ∙ m .columns };
         }
 
@@ -564,27 +522,27 @@ module _ {t : Tally} {R C : List ℕ} {W H : List Float} {K D : List ℕ} where
 
     pub closed-rows : length R′ ≡ length R
     unfolding emit
-    closed-rows = ap (λ s. length (s .rows)) (p .says []) ∙ length-sets R (t .entries) (map (λ e. e .row) (entriesFrom (t .rows) (bandsOf xs)))
+    closed-rows = ap (λ s. length (s .rows)) (p .says []) ∙ length-sets R (t .entries) (map (λ e. e .row) (entriesFrom (t .rows .at) (bandsOf xs)))
 
-    pub closed-cols : length C′ ≡ length C
+    pub closed-columns : length C′ ≡ length C
     unfolding emit
-    closed-cols = ap (λ s. length (s .cols)) (p .says []) ∙ length-sets C (t .entries) (map (λ e. e .column) (entriesFrom (t .rows) (bandsOf xs)))
+    closed-columns = ap (λ s. length (s .columns)) (p .says []) ∙ length-sets C (t .entries) (map (λ e. e .column) (entriesFrom (t .rows .at) (bandsOf xs)))
 
-    pub closed-vals : length W′ ≡ length W
+    pub closed-values : length W′ ≡ length W
     unfolding emit
-    closed-vals = ap (λ s. length (s .vals)) (p .says []) ∙ length-sets W (t .entries) (map (λ e. e .value) (entriesFrom (t .rows) (bandsOf xs)))
+    closed-values = ap (λ s. length (s .values)) (p .says []) ∙ length-sets W (t .entries) (map (λ e. e .value) (entriesFrom (t .rows .at) (bandsOf xs)))
 
     pub closed-right : length H′ ≡ length H
     unfolding emit
-    closed-right = ap (λ s. length (s .right)) (p .says []) ∙ length-sets H (t .rows) (rightSides (bandsOf xs))
+    closed-right = ap (λ s. length (s .right)) (p .says []) ∙ length-sets H (t .rows .at) (rightSides (bandsOf xs))
 
     pub closed-kinds : length K′ ≡ length K
     unfolding emit
     closed-kinds = ap (λ s. length (s .kinds)) (p .says []) ∙ length-sets K (t .cones) (map (λ c. c .kind) xs)
 
-    pub closed-dims : length D′ ≡ length D
+    pub closed-dimensions : length D′ ≡ length D
     unfolding emit
-    closed-dims = ap (λ s. length (s .dims)) (p .says []) ∙ length-sets D (t .cones) (map dimension xs)
+    closed-dimensions = ap (λ s. length (s .dimensions)) (p .says []) ∙ length-sets D (t .cones) (map dimension xs)
 
   pub closed-skip : {b : ℕ} → Closed t R C W H K D t R C W H K D [] b
   closed-skip = closed-most closed-none (omega arith)
@@ -603,24 +561,24 @@ module _ {t : Tally} {R C : List ℕ} {W H : List Float} {K D : List ℕ} where
 
   -- a block: its cones, then the cost of its columns
   pub builds : {t′ : Tally} {R′ C′ : List ℕ} {W′ H′ : List Float} {K′ D′ : List ℕ} {cs : List Cone} {b : ℕ} {t″ : Tally} {Q Q′ : List Float} {xs : List Float} {ys : List Cell} {m c : ℕ}
-      → Closed t R C W H K D t′ R′ C′ W′ H′ K′ D′ cs b → Costs t′ Q t″ Q′ xs → t″ .columns ≡ t′ .columns + m → b ≤ c → m ≤ c
+      → Closed t R C W H K D t′ R′ C′ W′ H′ K′ D′ cs b → Costs t′ Q t″ Q′ xs → t″ .columns .at ≡ t′ .columns .at + m → b ≤ c → m ≤ c
       → Built (state R C W H K D Q t) (state R′ C′ W′ H′ K′ D′ Q′ t″) (record { cones = cs; cost = xs; charges = ys }) c
   unfolding emit
   builds {t′} {R′} {C′} {W′} {H′} {K′} {D′} {cs} {t″} {Q} {xs} p g e h l =
       let n = p .steps in
       let u : State = state R C W H K D Q t in
       let a : t″ .entries ≡ t′ .entries = ap (λ s. s .tally .entries) (g .says R′ C′ W′ H′ K′ D′) ∙ add-zero (t′ .entries) in
-      let z : t″ .rows ≡ t′ .rows = ap (λ s. s .tally .rows) (g .says R′ C′ W′ H′ K′ D′) ∙ add-zero (t′ .rows) in
+      let z : t″ .rows .at ≡ t′ .rows .at = ap (λ s. s .tally .rows .at) (g .says R′ C′ W′ H′ K′ D′) ∙ add-zero (t′ .rows .at) in
       let y : t″ .cones ≡ t′ .cones = ap (λ s. s .tally .cones) (g .says R′ C′ W′ H′ K′ D′) ∙ add-zero (t′ .cones) in
       record {
-        says = g .says R′ C′ W′ H′ K′ D′ ∙ ap (emit (chunk [] [] [] xs)) (p .says Q) ∙ emit-emit (ofCones (t .rows) cs) (chunk [] [] [] xs) u
-            ∙ (λ i. emit (chunk (append-nil (entriesFrom (t .rows) (bandsOf cs)) i) (append-nil (rightSides (bandsOf cs)) i) (append-nil cs i) xs) u);
+        says = g .says R′ C′ W′ H′ K′ D′ ∙ ap (emit (chunk [] [] [] xs)) (p .says Q) ∙ emit-emit (ofCones (t .rows .at) cs) (chunk [] [] [] xs) u
+            ∙ (λ i. emit (chunk (append-nil (entriesFrom (t .rows .at) (bandsOf cs)) i) (append-nil (rightSides (bandsOf cs)) i) (append-nil cs i) xs) u);
         entries = omega arith;
         rows = omega arith;
         cones = omega arith;
         columns = omega arith;
       }
 
-pub ruleset stage = (fills-none, fills-more, fills-all, fills-rows, fills-cols, fills-vals, right-none, right-more, right-all, right-length, cost-none, cost-more, cost-all, cost-length, needs)
+pub ruleset stage = (fills-none, fills-more, fills-all, fills-rows, fills-columns, fills-values, right-none, right-more, right-all, right-length, cost-none, cost-more, cost-all, cost-length, needs)
 
-pub ruleset turns = (overs-none, overs-rows, overs-cols, overs-vals, overs-right, lists-none, lists-rows, lists-cols, lists-vals, lists-right, needs)
+pub ruleset turns = (overs-none, overs-rows, overs-columns, overs-values, overs-right, lists-none, lists-rows, lists-columns, lists-values, lists-right, needs)

@@ -20,10 +20,10 @@ four-sets x at a b c d p q r s =
 
 -- the firsts, and the lengths
 abbrev firsts : Tally → List ℕ
-firsts t = t .entries ∷ t .rows ∷ t .cones ∷ t .columns ∷ []
+firsts t = t .entries ∷ t .rows .at ∷ t .cones ∷ t .columns .at ∷ []
 
 abbrev sizes : Tally → Tally → List ℕ
-sizes t u = (u .entries - t .entries) ∷ (u .rows - t .rows) ∷ (u .cones - t .cones) ∷ (u .columns - t .columns) ∷ []
+sizes t u = (u .entries - t .entries) ∷ (u .rows .at - t .rows .at) ∷ (u .cones - t .cones) ∷ (u .columns .at - t .columns .at) ∷ []
 
 pub owner-put : (t u : Tally) (x : List ℕ) {x₁ x₂ : List ℕ} → x₁ ≡ sets x (8 * t .owner) (firsts t) → x₂ ≡ sets x₁ (8 * t .owner + 4) (sizes t u)
     → PutsOwner t u x (reowned (t .owner + 1) u) x₂

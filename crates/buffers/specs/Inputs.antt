@@ -1,11 +1,10 @@
 -- The inputs of the writers, put together as crate model's records, and what is known of their sizes.
 use mathlib.Core.Path.{_≡_}
 use mathlib.Core.List.{List}
-use Prim.Native.Nat.{ℕ, _+_, _-_, _*_, _≤_, _<_}
+use Prim.Native.Nat.{ℕ, _+_, _*_, _≤_, _<_}
 use lib.Ieee.{Float}
-use lib.ListN.{length, getD}
-use Rattle.model.specs.Problem.{Path, Torque, Acceleration, Jerk, Limits}
-use Rattle.model.specs.declared.Bounds.{Bounds}
+use lib.ListN.{length}
+use Rattle.model.specs.Problem.{Path, Torque}
 use Rattle.model.specs.declared.Ends.{Ends}
 
 abbrev pub path : List Float → Ends → Path

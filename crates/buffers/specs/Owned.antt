@@ -7,18 +7,17 @@ use Rattle.model.specs.Counts.{fourCounts}
 use Rattle.model.specs.Owners.{Owner, eight}
 use Rattle.model.specs.declared.FourCounts.{FourCounts}
 use Rattle.model.specs.declared.Tally.{Tally}
-use Rattle.buffers.specs.Lent.{Lent}
-use denote.Ref.{now}
+use Rattle.model.specs.Lent.{Lent, atEntry, atExit}
 
 abbrev pub countsOf : Tally → FourCounts
-countsOf t = fourCounts (t .entries) (t .rows) (t .cones) (t .columns)
+countsOf t = fourCounts (t .entries) (t .rows .at) (t .cones) (t .columns .at)
 
 -- the owner whose block began at tally t and ended at u
 abbrev pub ownerBetween : Tally → Tally → Owner
 ownerBetween t u =
     record {
       first = countsOf t;
-      size = fourCounts (u .entries - t .entries) (u .rows - t .rows) (u .cones - t .cones) (u .columns - t .columns);
+      size = fourCounts (u .entries - t .entries) (u .rows .at - t .rows .at) (u .cones - t .cones) (u .columns .at - t .columns .at);
     }
 
 -- the tally while another owner is written
@@ -31,4 +30,4 @@ pub record PutsOwner (t u : Tally) (x : List ℕ) (t′ : Tally) (x′ : List �
   pub next : t′ ≡ reowned (t .owner + 1) u
 
 abbrev pub putsOwner : Tally → Tally → Lent ℕ → Tally → Type 0
-putsOwner t u x t′ = PutsOwner t u (now (x .entry)) t′ (now (x .exit))
+putsOwner t u x t′ = PutsOwner t u (atEntry x) t′ (atExit x)

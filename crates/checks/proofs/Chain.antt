@@ -1,5 +1,5 @@
 -- Checks one after another: what a call found decides, or hands on to the rest.
-use Prim.Native.Nat.{ℕ, _+_, _-_, max}
+use Prim.Native.Nat.{ℕ, _+_}
 use mathlib.Core.Path.{_≡_, refl, sym, _∙_}
 use lib.Dec.{leb}
 use lib.ListN.{length}

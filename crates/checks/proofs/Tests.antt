@@ -1,5 +1,5 @@
 -- Tests on floats and on whole numbers, as the code writes them.
-use Prim.Native.Nat.{ℕ, _+_, _-_, _≤_, _<_}
+use Prim.Native.Nat.{ℕ, _+_, _≤_, _<_}
 use mathlib.Core.Path.{_≡_, refl, _∙_}
 use mathlib.Core.Bool.{Bool, true, false, not}
 use mathlib.Core.List.{List}

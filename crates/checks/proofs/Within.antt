@@ -11,8 +11,8 @@ use native.Mathlib.Omega.{arith}
 use Rattle.model.specs.Problem.{Problem, Path, n, m}
 use Rattle.checks.specs.Groups.{jobRefusal, countsLengths}
 use Rattle.checks.specs.Fitting.{Fitting}
-use Rattle.model.specs.Verdicts.{_then_, refuse}
-use Rattle.model.specs.Refusals.{listRefusal, gridRefusal, setupRefusal, tablesRefusal, table, refusal}
+use Rattle.model.specs.Verdicts.{refuse}
+use Rattle.model.specs.Refusals.{listRefusal, gridRefusal, setupRefusal, tablesRefusal, refusal}
 use Rattle.model.specs.declared.Job.{Job}
 use Rattle.model.specs.declared.Objective.{Objective}
 use Rattle.model.specs.declared.Verdict.the-variants.{Accepted}

@@ -7,7 +7,8 @@ ghost use lib.Ieee.{lt};
 ghost use lib.ListN.{length, take, getD};
 ghost use Rattle.model.specs.Numbers.{at, finite, unusable, unfit};
 ghost use Rattle.model.specs.Lists.{total, part};
-ghost use Rattle.model.specs.Problem.{problem, some, weight, isThermal, isTorque, isLinear};
+ghost use Rattle.model.specs.Problem.{some, weight, isThermal, isTorque, isLinear};
+ghost use Rattle.model.specs.Lent.{atEntry, lent};
 ghost use Rattle.model.specs.Verdicts.{_then_, refuse, lowest, itself};
 ghost use Rattle.model.specs.Refusals.{firstRefusal, signsRefusal, boundaryRefusal, gridRefusal, listRefusal, scalesRefusal, listsRefusal, objectivesRefusal, setupRefusal, table, tableIf, tablesRefusal, unusableEnd, crossed, boundsRefusal, refusal};
 ghost use Rattle.checks.specs.Groups.{jobRefusal, countsLengths, rowsRefusal, accLengths, jerkLengths, standardLengths, torqueLengths, rootLengths, objectiveLengths};
@@ -18,6 +19,9 @@ use model::Job;
 use model::Objective;
 use model::Verdict;
 use numbers::is_finite;
+use objective_kinds::is_linear;
+use objective_kinds::is_thermal;
+use objective_kinds::is_torque;
 
 // NaN or minus infinity.
 fn is_unusable(x: f64) -> bool
@@ -55,42 +59,45 @@ pub fn first_of(a: Verdict, b: Verdict) -> Verdict
 }
 
 // Refusal 1.
-fn check_first(b: Boundary) -> Verdict
-    ensures { λ r. ⌜ r ≡ firstRefusal b ⌝ }
+fn check_first(boundary: Boundary) -> Verdict
+    ensures { λ r. ⌜ r ≡ firstRefusal boundary ⌝ }
 {
     let early = first_of(
-        refuse_if(1, 0, !is_finite(b.a0)),
-        refuse_if(1, 1, !is_finite(b.a1)),
+        refuse_if(1, 0, !is_finite(boundary.a0)),
+        refuse_if(1, 1, !is_finite(boundary.a1)),
     );
     let late = first_of(
-        refuse_if(1, 2, !is_finite(b.b0)),
-        refuse_if(1, 3, !is_finite(b.b1)),
+        refuse_if(1, 2, !is_finite(boundary.b0)),
+        refuse_if(1, 3, !is_finite(boundary.b1)),
     );
     first_of(early, late)
 }
 
 // Refusals 2 and 3.
-fn check_signs(b: Boundary) -> Verdict
-    ensures { λ r. ⌜ r ≡ signsRefusal b ⌝ }
+fn check_signs(boundary: Boundary) -> Verdict
+    ensures { λ r. ⌜ r ≡ signsRefusal boundary ⌝ }
 {
-    let below = first_of(refuse_if(2, 0, b.a0 < 0.0), refuse_if(2, 1, b.a1 < 0.0));
-    let start = (b.a0 == 0.0) & (b.b0 < 0.0);
-    let end = (b.a1 == 0.0) & (0.0 < b.b1);
+    let below = first_of(
+        refuse_if(2, 0, boundary.a0 < 0.0),
+        refuse_if(2, 1, boundary.a1 < 0.0),
+    );
+    let start = (boundary.a0 == 0.0) & (boundary.b0 < 0.0);
+    let end = (boundary.a1 == 0.0) & (0.0 < boundary.b1);
     first_of(
         below,
         first_of(refuse_if(3, 0, start), refuse_if(3, 1, end)),
     )
 }
 
-fn check_boundary(b: Boundary) -> Verdict
-    ensures { λ r. ⌜ r ≡ boundaryRefusal b ⌝ }
+fn check_boundary(boundary: Boundary) -> Verdict
+    ensures { λ r. ⌜ r ≡ boundaryRefusal boundary ⌝ }
 {
-    first_of(check_first(b), check_signs(b))
+    first_of(check_first(boundary), check_signs(boundary))
 }
 
 // Refusal 6: the lowest station whose number is not finite.
 fn check_finite(grid: &[f64]) -> Verdict
-    ensures { λ r. ⌜ r ≡ lowest 6 itself (λ k. not (finite (at (now (grid .entry)) k))) 0 (length (now (grid .entry))) ⌝ }
+    ensures { λ r. ⌜ r ≡ lowest 6 itself (λ k. not (finite (at (atEntry grid) k))) 0 (length (atEntry grid)) ⌝ }
 {
     let mut k = 0;
     while k < grid.len() {
@@ -107,7 +114,7 @@ fn check_finite(grid: &[f64]) -> Verdict
 
 // Refusal 7: the lowest station whose number is not above the one before.
 fn check_rising(grid: &[f64]) -> Verdict
-    ensures { λ r. ⌜ r ≡ lowest 7 itself (λ k. not (lt (at (now (grid .entry)) (k - 1)) (at (now (grid .entry)) k))) 1 (length (now (grid .entry)) - 1) ⌝ }
+    ensures { λ r. ⌜ r ≡ lowest 7 itself (λ k. not (lt (at (atEntry grid) (k - 1)) (at (atEntry grid) k))) 1 (length (atEntry grid) - 1) ⌝ }
 {
     let mut k = 1;
     while k < grid.len() {
@@ -124,7 +131,7 @@ fn check_rising(grid: &[f64]) -> Verdict
 
 // Refusals 4 to 7.
 fn check_grid(grid: &[f64]) -> Verdict
-    ensures { λ r. ⌜ r ≡ gridRefusal (now (grid .entry)) ⌝ }
+    ensures { λ r. ⌜ r ≡ gridRefusal (atEntry grid) ⌝ }
 {
     let v = refuse_if(4, 0, grid.len() < 3);
     let Verdict::Accepted = v else {
@@ -153,7 +160,7 @@ fn is_past(pool: usize, start: usize, len: usize) -> bool
 
 // Refusal 12 of one list.
 fn check_list(pool: &[f64], place: usize, long: usize, start: usize, len: usize) -> Verdict
-    ensures { λ r. ⌜ r ≡ listRefusal (now (pool .entry)) place long start len ⌝ }
+    ensures { λ r. ⌜ r ≡ listRefusal (atEntry pool) place long start len ⌝ }
 {
     let past = is_past(pool.len(), start, len);
     refuse_if(12, place, (len != long) | past)
@@ -162,7 +169,7 @@ fn check_list(pool: &[f64], place: usize, long: usize, start: usize, len: usize)
 // Refusal 13.
 fn check_scales(pool: &[f64], place: usize, start: usize, len: usize) -> Verdict
     requires { ⌜ start + len ≤ length (now pool) ⌝ }
-    ensures { λ r. ⌜ r ≡ lowest 13 (λ j. place) (λ j. unfit (at (part (now (pool .entry)) start len) j)) 0 len ⌝ }
+    ensures { λ r. ⌜ r ≡ lowest 13 (λ j. place) (λ j. unfit (at (part (atEntry pool) start len) j)) 0 len ⌝ }
 {
     let mut j = 0;
     while j < len {
@@ -176,7 +183,7 @@ fn check_scales(pool: &[f64], place: usize, start: usize, len: usize) -> Verdict
 
 // Refusals 12 and 13 of an objective with d scales.
 fn check_scaled(pool: &[f64], d: usize, place: usize, start: usize, len: usize) -> Verdict
-    ensures { λ r. ⌜ r ≡ scalesRefusal (now (pool .entry)) d place start len ⌝ }
+    ensures { λ r. ⌜ r ≡ scalesRefusal (atEntry pool) d place start len ⌝ }
 {
     let v = check_list(pool, place, d, start, len);
     let Verdict::Accepted = v else {
@@ -187,7 +194,7 @@ fn check_scaled(pool: &[f64], d: usize, place: usize, start: usize, len: usize) 
 
 // Refusals 12 and 13 of an objective.
 fn check_lists(pool: &[f64], d: usize, stations: usize, place: usize, o: Objective) -> Verdict
-    ensures { λ r. ⌜ r ≡ listsRefusal (now (pool .entry)) d stations place o ⌝ }
+    ensures { λ r. ⌜ r ≡ listsRefusal (atEntry pool) d stations place o ⌝ }
 {
     match o {
         Objective::Time(_) => Verdict::Accepted,
@@ -241,7 +248,7 @@ fn weight_of(o: Objective) -> f64
 
 // Refusals 11 to 13 of an objective.
 fn check_objective(pool: &[f64], d: usize, stations: usize, place: usize, o: Objective) -> Verdict
-    ensures { λ r. ⌜ r ≡ (refuse 11 place (unfit (weight o)) then listsRefusal (now (pool .entry)) d stations place o) ⌝ }
+    ensures { λ r. ⌜ r ≡ (refuse 11 place (unfit (weight o)) then listsRefusal (atEntry pool) d stations place o) ⌝ }
 {
     let v = refuse_if(11, place, is_unfit(weight_of(o)));
     let Verdict::Accepted = v else {
@@ -259,7 +266,7 @@ fn check_objectives(
     count: usize,
 ) -> Verdict
     requires { ⌜ count ≤ 16 ⌝ }
-    ensures { λ r. ⌜ r ≡ objectivesRefusal (now (pool .entry)) d stations 0 (take count objectives) ⌝ }
+    ensures { λ r. ⌜ r ≡ objectivesRefusal (atEntry pool) d stations 0 (take count objectives) ⌝ }
 {
     let mut i = 0;
     while i < count {
@@ -281,7 +288,7 @@ fn check_setup(
     stations: usize,
     pool: &[f64],
 ) -> Verdict
-    ensures { λ r. ⌜ r ≡ setupRefusal d count objectives stations (now (pool .entry)) ⌝ }
+    ensures { λ r. ⌜ r ≡ setupRefusal d count objectives stations (atEntry pool) ⌝ }
 {
     let v = refuse_if(8, 0, (d == 0) | (32 < d));
     let Verdict::Accepted = v else {
@@ -296,81 +303,6 @@ fn check_setup(
         return v;
     };
     check_objectives(pool, d, stations, objectives, count)
-}
-
-fn is_thermal(o: Objective) -> bool
-    ensures { λ r. ⌜ r ≡ isThermal o ⌝ }
-{
-    match o {
-        Objective::Time(_) => false,
-        Objective::ThermalEnergy {
-            weight: _,
-            start: _,
-            len: _,
-        } => true,
-        Objective::TotalVariationTorque {
-            weight: _,
-            start: _,
-            len: _,
-        } => false,
-        Objective::Linear {
-            weight: _,
-            alpha: _,
-            alpha_len: _,
-            beta: _,
-            beta_len: _,
-        } => false,
-    }
-}
-
-fn is_torque(o: Objective) -> bool
-    ensures { λ r. ⌜ r ≡ isTorque o ⌝ }
-{
-    match o {
-        Objective::Time(_) => false,
-        Objective::ThermalEnergy {
-            weight: _,
-            start: _,
-            len: _,
-        } => false,
-        Objective::TotalVariationTorque {
-            weight: _,
-            start: _,
-            len: _,
-        } => true,
-        Objective::Linear {
-            weight: _,
-            alpha: _,
-            alpha_len: _,
-            beta: _,
-            beta_len: _,
-        } => false,
-    }
-}
-
-fn is_linear(o: Objective) -> bool
-    ensures { λ r. ⌜ r ≡ isLinear o ⌝ }
-{
-    match o {
-        Objective::Time(_) => false,
-        Objective::ThermalEnergy {
-            weight: _,
-            start: _,
-            len: _,
-        } => false,
-        Objective::TotalVariationTorque {
-            weight: _,
-            start: _,
-            len: _,
-        } => false,
-        Objective::Linear {
-            weight: _,
-            alpha: _,
-            alpha_len: _,
-            beta: _,
-            beta_len: _,
-        } => true,
-    }
 }
 
 // The kinds on which it depends whether tables 10 to 15 count.
@@ -430,13 +362,13 @@ fn check_table_if(counts: bool, t: usize, have: usize, need: usize) -> Verdict
 }
 
 // Refusal 16 within a table.
-fn check_rows(rows: &[u32], stations: usize) -> Verdict
-    requires { ⌜ stations ≤ length (now rows) ⌝ }
-    ensures { λ r. ⌜ r ≡ lowest 16 itself (λ k. ltb 256 (getD (now (rows .entry)) k 0)) 0 stations ⌝ }
+fn check_rows(counts: &[u32], stations: usize) -> Verdict
+    requires { ⌜ stations ≤ length (now counts) ⌝ }
+    ensures { λ r. ⌜ r ≡ lowest 16 itself (λ k. ltb 256 (getD (atEntry counts) k 0)) 0 stations ⌝ }
 {
     let mut k = 0;
     while k < stations {
-        if 256 < rows[k] {
+        if 256 < counts[k] {
             return Verdict::Refused {
                 number: 16,
                 place: k,
@@ -460,7 +392,7 @@ fn check_counts(stations: usize, acc_rows: usize, jerk_rows: usize) -> Verdict
 // Refusal 16, table 0 before table 1.
 fn check_all_rows(stations: usize, acc_rows: &[u32], jerk_rows: &[u32]) -> Verdict
     requires { ⌜ (stations ≤ length (now «acc_rows»)) × (stations ≤ length (now «jerk_rows»)) ⌝ }
-    ensures { λ r. ⌜ r ≡ rowsRefusal stations (now («acc_rows» .entry)) (now («jerk_rows» .entry)) ⌝ }
+    ensures { λ r. ⌜ r ≡ rowsRefusal stations (atEntry «acc_rows») (atEntry «jerk_rows») ⌝ }
 {
     first_of(
         check_rows(acc_rows, stations),
@@ -469,14 +401,14 @@ fn check_all_rows(stations: usize, acc_rows: &[u32], jerk_rows: &[u32]) -> Verdi
 }
 
 // The sum of a table of row counts: 4,097 numbers of 32 bits fit 64 bits.
-fn total_rows(rows: &[u32]) -> usize
-    requires { ⌜ length (now rows) ≤ 4097 ⌝ }
-    ensures { λ r. ⌜ r ≡ total (now (rows .entry)) ⌝ }
+fn total_rows(counts: &[u32]) -> usize
+    requires { ⌜ length (now counts) ≤ 4097 ⌝ }
+    ensures { λ r. ⌜ r ≡ total (atEntry counts) ⌝ }
 {
     let mut sum: usize = 0;
     let mut k = 0;
-    while k < rows.len() {
-        sum += rows[k] as usize;
+    while k < counts.len() {
+        sum += counts[k] as usize;
         k += 1;
     }
     sum
@@ -518,7 +450,7 @@ fn check_standard_lengths(
     jerk_max: usize,
 ) -> Verdict
     requires { ⌜ (length (now «acc_rows») ≤ 4097) × (length (now «jerk_rows») ≤ 4097) ⌝ }
-    ensures { λ r. ⌜ r ≡ standardLengths stations (total (now («acc_rows» .entry))) (total (now («jerk_rows» .entry))) amax «acc_a» «acc_b» «acc_max» «jerk_a» «jerk_b» «jerk_c» «jerk_max» ⌝ }
+    ensures { λ r. ⌜ r ≡ standardLengths stations (total (atEntry «acc_rows»)) (total (atEntry «jerk_rows»)) amax «acc_a» «acc_b» «acc_max» «jerk_a» «jerk_b» «jerk_c» «jerk_max» ⌝ }
 {
     let v = check_table(2, amax, stations);
     let Verdict::Accepted = v else {
@@ -613,7 +545,7 @@ fn check_tables(
     pool: &[f64],
 ) -> Verdict
     requires { ⌜ (3 ≤ length (now grid)) × (length (now grid) ≤ 4097) × (job .d ≤ 32) × (job .count ≤ 16) ⌝ }
-    ensures { λ r. ⌜ r ≡ tablesRefusal (problem job objectives (now (grid .entry)) (now («acc_rows» .entry)) (now («jerk_rows» .entry)) (now (amax .entry)) (now («acc_a» .entry)) (now («acc_b» .entry)) (now («acc_max» .entry)) (now («jerk_a» .entry)) (now («jerk_b» .entry)) (now («jerk_c» .entry)) (now («jerk_max» .entry)) (now (thermal .entry)) (now («torque_a» .entry)) (now («torque_b» .entry)) (now («torque_g» .entry)) (now («start_roots» .entry)) (now («end_roots» .entry)) (now (pool .entry))) ⌝ }
+    ensures { λ r. ⌜ r ≡ tablesRefusal (lent job objectives grid «acc_rows» «jerk_rows» amax «acc_a» «acc_b» «acc_max» «jerk_a» «jerk_b» «jerk_c» «jerk_max» thermal «torque_a» «torque_b» «torque_g» «start_roots» «end_roots» pool) ⌝ }
 {
     let ends = job.ends;
     let n = grid.len() - 1;
@@ -656,29 +588,29 @@ fn check_tables(
 }
 
 // Whether refusal 17 applies to a stationary end.
-fn is_unusable_end(count: usize, b: Bounds) -> bool
-    ensures { λ r. ⌜ r ≡ unusableEnd count b ⌝ }
+fn is_unusable_end(count: usize, bounds: Bounds) -> bool
+    ensures { λ r. ⌜ r ≡ unusableEnd count bounds ⌝ }
 {
     if count == 0 {
         return false;
     }
-    is_unusable(b.maximum) | !is_finite(b.minimum)
+    is_unusable(bounds.maximum) | !is_finite(bounds.minimum)
 }
 
 // Whether refusal 18 applies to a stationary end.
-fn is_crossed(count: usize, b: Bounds) -> bool
-    ensures { λ r. ⌜ r ≡ crossed count b ⌝ }
+fn is_crossed(count: usize, bounds: Bounds) -> bool
+    ensures { λ r. ⌜ r ≡ crossed count bounds ⌝ }
 {
     if count == 0 {
         return false;
     }
-    b.maximum < b.minimum
+    bounds.maximum < bounds.minimum
 }
 
 // Refusal 17 of the stations from `from` to below `to`.
 fn check_amax(amax: &[f64], from: usize, to: usize) -> Verdict
     requires { ⌜ (to ≤ length (now amax)) × (length (now amax) ≤ 4097) ⌝ }
-    ensures { λ r. ⌜ r ≡ lowest 17 (λ k. 2 + k) (λ k. unusable (at (now (amax .entry)) k)) from (to - from) ⌝ }
+    ensures { λ r. ⌜ r ≡ lowest 17 (λ k. 2 + k) (λ k. unusable (at (atEntry amax) k)) from (to - from) ⌝ }
 {
     let mut k = from;
     while k < to {
@@ -696,7 +628,7 @@ fn check_amax(amax: &[f64], from: usize, to: usize) -> Verdict
 // Refusals 17 and 18.
 fn check_bounds(ends: Ends, start: Bounds, end: Bounds, grid: &[f64], amax: &[f64]) -> Verdict
     requires { ⌜ (length (now amax) ≡ length (now grid)) × (length (now grid) ≤ 4097) × (ends .n0 + ends .n1 + 1 < length (now grid)) ⌝ }
-    ensures { λ r. ⌜ r ≡ boundsRefusal (record { grid = now (grid .entry); N0 = ends .n0; N1 = ends .n1 }) (record { start = start; end = end; amax = now (amax .entry) }) ⌝ }
+    ensures { λ r. ⌜ r ≡ boundsRefusal (record { grid = atEntry grid; N0 = ends .n0; N1 = ends .n1 }) (record { start = start; end = end; amax = atEntry amax }) ⌝ }
 {
     let v = refuse_if(17, 0, is_unusable_end(ends.n0, start));
     let Verdict::Accepted = v else {
@@ -718,7 +650,7 @@ fn check_bounds(ends: Ends, start: Bounds, end: Bounds, grid: &[f64], amax: &[f6
 
 // Refusals 1 to 13.
 fn check_job(job: Job, objectives: [Objective; 16], grid: &[f64], pool: &[f64]) -> Verdict
-    ensures { λ r. ⌜ r ≡ jobRefusal job objectives (now (grid .entry)) (now (pool .entry)) ⌝ }
+    ensures { λ r. ⌜ r ≡ jobRefusal job objectives (atEntry grid) (atEntry pool) ⌝ }
 {
     let boundary = job.boundary;
     let v = check_boundary(boundary);
@@ -756,7 +688,7 @@ pub fn check(
     end_roots: &[f64],
     pool: &[f64],
 ) -> Verdict
-    ensures { λ r. ⌜ r ≡ refusal (problem job objectives (now (grid .entry)) (now («acc_rows» .entry)) (now («jerk_rows» .entry)) (now (amax .entry)) (now («acc_a» .entry)) (now («acc_b» .entry)) (now («acc_max» .entry)) (now («jerk_a» .entry)) (now («jerk_b» .entry)) (now («jerk_c» .entry)) (now («jerk_max» .entry)) (now (thermal .entry)) (now («torque_a» .entry)) (now («torque_b» .entry)) (now («torque_g» .entry)) (now («start_roots» .entry)) (now («end_roots» .entry)) (now (pool .entry))) ⌝ }
+    ensures { λ r. ⌜ r ≡ refusal (lent job objectives grid «acc_rows» «jerk_rows» amax «acc_a» «acc_b» «acc_max» «jerk_a» «jerk_b» «jerk_c» «jerk_max» thermal «torque_a» «torque_b» «torque_g» «start_roots» «end_roots» pool) ⌝ }
 {
     let v = check_job(job, objectives, grid, pool);
     let Verdict::Accepted = v else {

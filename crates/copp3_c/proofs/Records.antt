@@ -1,9 +1,8 @@
 -- An array that is filled element by element from another.
 use Prim.Native.Nat.{ℕ, _+_, _≤_, _<_}
 use native.Mathlib.Numerals.{add-one}
-use native.Mathlib.Omega.{arith}
 use mathlib.Core.Path.{_≡_, refl}
-use mathlib.Core.List.{List, [], _∷_, _++_, map, map-append}
+use mathlib.Core.List.{List, map, map-append}
 use lib.ListN.{length, getD, set, take}
 use lib.Seq.{take-suc, take-suc-set, take-all}
 

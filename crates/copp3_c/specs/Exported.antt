@@ -1,7 +1,7 @@
 -- What the exported functions add: plain records for objectives and for the answers, and the judgement of a kind.
 use Prim.Native.Nat.{ℕ, min}
 use mathlib.Core.Bool.{cond}
-use mathlib.Core.List.{List, [], _∷_}
+use mathlib.Core.List.{List, [], _∷_, map}
 use lib.Dec.{eqb, ltb}
 use lib.Ieee.{nan}
 use lib.ListN.{getD}
@@ -15,6 +15,7 @@ use Rattle.model.specs.declared.Verdict.the-variants.{Accepted, Refused}
 use Rattle.model.specs.declared.Objective.{Objective}
 use Rattle.model.specs.declared.Objective.the-variants.{Time, ThermalEnergy, TotalVariationTorque, Linear}
 use Rattle.copp3_c.specs.declared.ObjectiveRecord.{ObjectiveRecord}
+use Rattle.copp3_c.specs.declared.ObjectiveRecords.{ObjectiveRecords}
 use Rattle.copp3_c.specs.declared.AnswerRecord.{AnswerRecord}
 use Rattle.copp3_c.specs.declared.OwnerRecord.{OwnerRecord}
 
@@ -25,6 +26,9 @@ objectiveOf r =
     (cond (eqb (r .kind) 1) (ThermalEnergy (r .weight) (r .start) (r .len))
     (cond (eqb (r .kind) 2) (TotalVariationTorque (r .weight) (r .start) (r .len))
     (Linear (r .weight) (r .start) (r .len) (r .start2) (r .len2))))
+
+abbrev pub objectivesOf : ObjectiveRecords → List Objective
+objectivesOf records = map objectiveOf (records .items)
 
 abbrev pub blank : ObjectiveRecord
 blank = record { kind = 0; weight = nan; start = 0; len = 0; start2 = 0; len2 = 0 }

@@ -3,13 +3,12 @@
 ghost use mathlib.Core.Path.{_≡_};
 ghost use mathlib.Core.List.{map};
 ghost use Prim.Native.Nat.{ℕ, min, _+_, _^_, _<_};
-ghost use Rattle.copp3_c.specs.Exported.{objectiveOf, kindRefusal, answerRecord, ownerRecord, sizedAs, exported, assembledAs};
-ghost use Rattle.model.specs.Problem.{problem};
+ghost use Rattle.copp3_c.specs.Exported.{objectiveOf, objectivesOf, kindRefusal, answerRecord, ownerRecord, sizedAs, exported, assembledAs};
 ghost use Rattle.model.specs.Answers.{told};
+ghost use Rattle.model.specs.Lent.{atEntry, lent, buffersBefore, buffersAfter};
 ghost use Rattle.model.specs.OwnerAnswers.{toldOwner, ownerOfRow, ownerOfColumn};
 ghost use Rattle.model.specs.declared.Answer.the-variants.{Refusal};
 ghost use Rattle.model.specs.declared.OwnerAnswer.the-variants.{ObjectiveNumber};
-ghost use Rattle.passes.specs.Program.{buffers};
 use model::Answer;
 use model::Column;
 use model::Job;
@@ -204,7 +203,7 @@ pub extern "C" fn copp3_size(
     end_roots: &[f64],
     pool: &[f64],
 ) -> AnswerRecord
-    ensures { λ r. ⌜ r ≡ sizedAs (job .count) (records .items) (problem job (map objectiveOf (records .items)) (now (grid .entry)) (now («acc_rows» .entry)) (now («jerk_rows» .entry)) (now (amax .entry)) (now («acc_a» .entry)) (now («acc_b» .entry)) (now («acc_max» .entry)) (now («jerk_a» .entry)) (now («jerk_b» .entry)) (now («jerk_c» .entry)) (now («jerk_max» .entry)) (now (thermal .entry)) (now («torque_a» .entry)) (now («torque_b» .entry)) (now («torque_g» .entry)) (now («start_roots» .entry)) (now («end_roots» .entry)) (now (pool .entry))) ⌝ }
+    ensures { λ r. ⌜ r ≡ sizedAs (job .count) (records .items) (lent job (objectivesOf records) grid «acc_rows» «jerk_rows» amax «acc_a» «acc_b» «acc_max» «jerk_a» «jerk_b» «jerk_c» «jerk_max» thermal «torque_a» «torque_b» «torque_g» «start_roots» «end_roots» pool) ⌝ }
 {
     let items = records.items;
     let known = kind_check(items, job.count);
@@ -268,7 +267,7 @@ pub extern "C" fn copp3_assemble(
     cost: &mut [f64],
     index: &mut [usize],
 ) -> AnswerRecord
-    ensures { λ r. ⌜ exported r (buffers (now (rows .exit)) (now (columns .exit)) (now (values .exit)) (now (right .exit)) (now (kinds .exit)) (now (dimensions .exit)) (now (cost .exit)) (now (index .exit))) ≡ assembledAs (job .count) (records .items) (problem job (map objectiveOf (records .items)) (now (grid .entry)) (now («acc_rows» .entry)) (now («jerk_rows» .entry)) (now (amax .entry)) (now («acc_a» .entry)) (now («acc_b» .entry)) (now («acc_max» .entry)) (now («jerk_a» .entry)) (now («jerk_b» .entry)) (now («jerk_c» .entry)) (now («jerk_max» .entry)) (now (thermal .entry)) (now («torque_a» .entry)) (now («torque_b» .entry)) (now («torque_g» .entry)) (now («start_roots» .entry)) (now («end_roots» .entry)) (now (pool .entry))) (buffers (now (rows .entry)) (now (columns .entry)) (now (values .entry)) (now (right .entry)) (now (kinds .entry)) (now (dimensions .entry)) (now (cost .entry)) (now (index .entry))) ⌝ }
+    ensures { λ r. ⌜ exported r (buffersAfter rows columns values right kinds dimensions cost index) ≡ assembledAs (job .count) (records .items) (lent job (objectivesOf records) grid «acc_rows» «jerk_rows» amax «acc_a» «acc_b» «acc_max» «jerk_a» «jerk_b» «jerk_c» «jerk_max» thermal «torque_a» «torque_b» «torque_g» «start_roots» «end_roots» pool) (buffersBefore rows columns values right kinds dimensions cost index) ⌝ }
 {
     let items = records.items;
     let known = kind_check(items, job.count);
@@ -311,7 +310,7 @@ pub extern "C" fn copp3_assemble(
 // Request 6: the owner of a row, by an index with a number of objectives. Here a row number is plain for the last time.
 #[no_mangle]
 pub extern "C" fn copp3_owner_of_row(index: &[usize], objectives: usize, row: usize) -> OwnerRecord
-    ensures { λ r. ⌜ r ≡ ownerRecord (ownerOfRow (now (index .entry)) objectives row) ⌝ }
+    ensures { λ r. ⌜ r ≡ ownerRecord (ownerOfRow (atEntry index) objectives row) ⌝ }
 {
     let a = owners::owner_of_row(index, objectives, Row { at: row });
     owner_record(a)
@@ -324,7 +323,7 @@ pub extern "C" fn copp3_owner_of_column(
     objectives: usize,
     column: usize,
 ) -> OwnerRecord
-    ensures { λ r. ⌜ r ≡ ownerRecord (ownerOfColumn (now (index .entry)) objectives column) ⌝ }
+    ensures { λ r. ⌜ r ≡ ownerRecord (ownerOfColumn (atEntry index) objectives column) ⌝ }
 {
     let a = owners::owner_of_column(index, objectives, Column { at: column });
     owner_record(a)

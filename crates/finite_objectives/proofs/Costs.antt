@@ -2,17 +2,17 @@
 use mathlib.Core.Path.{_≡_, refl, sym, ap, _∙_}
 use mathlib.Core.Bool.{Bool, true, _&&_}
 use mathlib.Core.List.{List, [], _∷_}
-use Prim.Native.Nat.{ℕ, zero, suc, _+_, _-_, _≤_, _<_}
+use Prim.Native.Nat.{ℕ, zero, suc, _+_, _≤_, _<_}
 use native.Mathlib.Numerals.{add-one}
 use native.Mathlib.Omega.{arith}
 use lib.Ieee.{Float, nan, neg, ofBits}
 use lib.ListN.{length, getD, take}
-use Rattle.model.specs.Numbers.{finite, at, _⊗_, +0}
+use Rattle.model.specs.Numbers.{finite, _⊗_, +0}
 use Rattle.model.specs.Lists.{list}
-use Rattle.model.specs.Problem.{Problem, Path, objectives, L, skip}
-use Rattle.model.specs.Program.{positiveRow, nothing}
+use Rattle.model.specs.Problem.{Problem, Path, L, skip}
+use Rattle.model.specs.Program.{positiveRow}
 use Rattle.model.specs.Objectives.{timeCone, timeBlock, timeWeight, linearBlock, objectiveBlock}
-use Rattle.model.specs.Assembled.{width, objectiveBlocks, bands, cost, allFinite}
+use Rattle.model.specs.Assembled.{width, objectiveBlocks, allFinite}
 use Rattle.model.specs.declared.Objective.{Objective}
 use Rattle.model.specs.declared.Objective.the-variants.{Time, Linear}
 use Rattle.finiteness.specs.Finite.{each, Each, finiteBands, finiteBlock, finiteBlocks}

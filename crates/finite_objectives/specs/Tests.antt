@@ -2,7 +2,7 @@
 use mathlib.Core.Bool.{Bool, _&&_}
 use mathlib.Core.List.{List}
 use mathlib.Core.Path.{_≡_}
-use Prim.Native.Nat.{ℕ, _+_, _-_, _*_, _≤_}
+use Prim.Native.Nat.{ℕ, _+_, _*_, _≤_}
 use lib.Ieee.{Float}
 use lib.ListN.{length}
 use Rattle.model.specs.Numbers.{at, finite, _⊕_, _⊖_, _⊗_, +4}

@@ -9,8 +9,8 @@ use lib.Ieee.{Float, neg, ofBits}
 use Rattle.model.specs.Numbers.{finite, at, _⊖_, _⊗_, +1, −1, −2, −1½}
 use Rattle.model.specs.Lists.{list, over, given}
 use Rattle.model.specs.Problem.{Path, Limits, Acceleration, Jerk, n, m, s, spacing, stop, colA}
-use Rattle.model.specs.Program.{row, cell, positiveRow, nothing}
-use Rattle.model.specs.Standard.{boundaryRows, stationaryRow, movingRows, upperRow, endRows, intervalRows, equalities, inequalities, firstOrder, accelerationRows, jerkRowsAt, standard}
+use Rattle.model.specs.Program.{row, cell, positiveRow}
+use Rattle.model.specs.Standard.{boundaryRows, stationaryRow, movingRows, upperRow, endRows, intervalRows, equalities, inequalities, firstOrder, accelerationRows, jerkRowsAt}
 use Rattle.model.specs.declared.Boundary.{Boundary}
 use Rattle.model.specs.declared.Bounds.{Bounds}
 use Rattle.standard.specs.Block.{standardCones}

@@ -1,8 +1,8 @@
 -- What the scans of the standard rows look at.
 use mathlib.Core.Bool.{Bool, _&&_}
 use mathlib.Core.List.{List}
-use Prim.Native.Nat.{ℕ, _+_, _-_}
-use lib.Ieee.{Float, neg}
+use Prim.Native.Nat.{ℕ, _-_}
+use lib.Ieee.{Float}
 use lib.Dec.{ltb}
 use Rattle.model.specs.Numbers.{at, finite, _⊕_, _⊖_, _⊗_, _⊘_, +1, −2}
 use Rattle.model.specs.Problem.{Path, spacing, stop}

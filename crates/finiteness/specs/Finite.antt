@@ -2,7 +2,7 @@
 use mathlib.Core.Path.{_≡_}
 use mathlib.Core.Bool.{Bool, true, false, _&&_}
 use mathlib.Core.List.{List, [], _∷_}
-use Prim.Native.Nat.{ℕ, zero, suc, _+_, _-_}
+use Prim.Native.Nat.{ℕ, zero, suc}
 use Rattle.model.specs.Numbers.{finite}
 use Rattle.model.specs.Lists.{joined}
 use Rattle.model.specs.Program.{Cell, Band, Cone, Block}

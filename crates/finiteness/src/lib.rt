@@ -2,7 +2,6 @@
 
 ghost use mathlib.Core.Path.{_≡_};
 ghost use mathlib.Core.Bool.{_&&_};
-ghost use Prim.Native.Nat.{_-_};
 ghost use Rattle.model.specs.Numbers.{finite};
 use numbers::both;
 use numbers::is_finite;

@@ -3,7 +3,7 @@ use Prim.Native.Nat.{ℕ, zero, suc, _+_, _-_, _*_, _≤_}
 use native.Mathlib.Nat.{not-suc-le-zero, le-of-suc-le-suc, mul-le-mul}
 use native.Mathlib.Omega.{arith}
 use mathlib.Core.Path.{_≡_, refl, sym, ap, _∙_}
-use mathlib.Core.List.{List, [], _∷_, _++_}
+use mathlib.Core.List.{List, _∷_, _++_}
 use lib.ListN.{length, take, drop, replicate, length-take, length-replicate}
 use lib.Seq.{take-length}
 use lib.Ieee.{Float}

@@ -5,6 +5,7 @@ ghost use Rattle.model.specs.Numbers.{+1};
 ghost use Rattle.model.specs.declared.Objective.the-variants.{ThermalEnergy, TotalVariationTorque, Linear};
 ghost use Rattle.model.specs.Answers.{told, sizing};
 ghost use Rattle.model.specs.Ledger.{cases};
+ghost use Rattle.model.specs.Lent.{atEntry};
 ghost use Rattle.ledger_cases.specs.Cases.{problemOf, Small, problemAt, letterAt, usualCase, jobOf};
 use model::Answer;
 use model::Boundary;
@@ -131,7 +132,7 @@ fn job_of(c: Case) -> Job
 
 // The first k numbers of a table.
 fn first(s: &[f64], k: usize) -> &[f64]
-    ensures { λ r. ⌜ now r ≡ take k (now (s .entry)) ⌝ }
+    ensures { λ r. ⌜ now r ≡ take k (atEntry s) ⌝ }
 {
     if k <= s.len() {
         return &s[0..k];
@@ -140,7 +141,7 @@ fn first(s: &[f64], k: usize) -> &[f64]
 }
 
 fn first_counts(s: &[u32], k: usize) -> &[u32]
-    ensures { λ r. ⌜ now r ≡ take k (now (s .entry)) ⌝ }
+    ensures { λ r. ⌜ now r ≡ take k (atEntry s) ⌝ }
 {
     if k <= s.len() {
         return &s[0..k];

@@ -11,7 +11,7 @@ use native.Mathlib.Omega.{arith}
 use borrow.Author.Tests.{eq-eqb, ne-eqb}
 use lib.Dec.{eqb}
 use lib.Ieee.{Float}
-use Rattle.model.specs.Numbers.{at, _⊕_}
+use Rattle.model.specs.Numbers.{_⊕_}
 use Rattle.model.specs.Lists.{list}
 use Rattle.model.specs.Program.{Cell, cell}
 use Rattle.model.proofs.All.{All, all-list}
@@ -83,6 +83,11 @@ on-it {x} {c} g z k m e u h l = record { says = sym (list-on x c g z k m e u h l
 -- with no column in front
 pub from-none : {y x : Float} {c : ℕ} (f : ℕ → Float) (k m : ℕ) → Charged y x c (list (λ j. cell (0 + j) (f j)) k m) → Charged y x c (list (λ j. cell j (f j)) k m)
 from-none {y} {x} {c} f k m h = subst (λ (g : ℕ → Cell). Charged y x c (list g k m)) (λ i j. cell (zero-add j i) (f j)) h
+
+-- with the columns in front counted otherwise
+pub from-column : {y x : Float} {c i o : ℕ} (f : ℕ → Float) (k m : ℕ)
+    → i ≡ o → Charged y x c (list (λ j. cell (i + j) (f j)) k m) → Charged y x c (list (λ j. cell (o + j) (f j)) k m)
+from-column {y} {x} {c} f k m e = subst (λ (i : ℕ). Charged y x c (list (λ j. cell (i + j) (f j)) k m)) e
 
 -- The moving stations are a to l - 1 - b of l stations, and f columns stand in front of that of station 0.
 pub not-past : (f l a b c j : ℕ) → a + b + 1 < l → f + (l - 1 - b) < c → j < a + (l - 1 - a - b + 1) → f + j ≢ c

@@ -10,7 +10,7 @@ use native.Mathlib.Omega.{arith}
 use lib.Ieee.{Float, nan}
 use lib.ListN.{length, take, set, getD, length-set}
 use lib.Seq.{getD-set-same, getD-set-other}
-use Rattle.model.specs.Numbers.{at, +0}
+use Rattle.model.specs.Numbers.{+0}
 use Rattle.model.specs.Lists.{list, joined, given}
 use Rattle.model.specs.Program.{Cell}
 use Rattle.model.specs.declared.Ends.{Ends}

@@ -3,7 +3,7 @@
 use mathlib.Core.Path.{_≡_, refl}
 use mathlib.Core.List.{List, [], _∷_, _++_, map}
 use lib.ListN.{replicate, take, drop}
-use lib.Ieee.{Float, neg}
+use lib.Ieee.{Float}
 use lib.Ieee
 use Rattle.model.specs.Numbers.{+0, +1, +2, +3, +∞}
 use Rattle.model.specs.Problem.{Problem}
@@ -13,7 +13,6 @@ use Rattle.model.specs.Verdicts
 use Rattle.model.specs.Refusals.{refusal}
 use Rattle.model.specs.Refusals
 use Rattle.model.specs.Standard
-use Rattle.model.specs.Objectives.{timeBlock, thermalBlock}
 use Rattle.model.specs.Objectives
 use Rattle.model.specs.Assembled.{columnNumbers, coneKinds, coneDimensions, cost, listLengths}
 use Rattle.model.specs.Assembled

@@ -36,6 +36,10 @@ pub record Buffers : Type 0 where
   pub cost : List Float
   pub index : List ℕ
 
+abbrev pub buffers : List ℕ → List ℕ → List Float → List Float → List ℕ → List ℕ → List Float → List ℕ → Buffers
+buffers rows columns values right kinds dimensions cost index =
+    record { rows = rows; columns = columns; values = values; right = right; kinds = kinds; dimensions = dimensions; cost = cost; index = index }
+
 -- of buffers 0 to 6
 abbrev pub lengths : Buffers → List ℕ
 lengths b =
@@ -94,6 +98,9 @@ written p b =
 pub record Result : Type 0 where
   pub told : Told
   pub buffers : Buffers
+
+abbrev pub answered : Answer → Buffers → Result
+answered a b = record { told = told a; buffers = b }
 
 -- "A refusal changes no byte of any buffer."
 unfoldable pub result : Verdict → Problem → Buffers → Result

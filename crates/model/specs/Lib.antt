@@ -11,6 +11,7 @@ pub mod Assembled
 pub mod Counts
 pub mod Owners
 pub mod Answers
+pub mod Lent
 pub mod OwnerAnswers
 pub mod Reweighed
 pub mod Conic

@@ -74,9 +74,9 @@ pub struct Term {
 // The running tally: entries, rows, cones and columns written so far, and the owner being written (its place in the order of the index).
 pub struct Tally {
     pub entries: usize,
-    pub rows: usize,
+    pub rows: Row,
     pub cones: usize,
-    pub columns: usize,
+    pub columns: Column,
     pub owner: usize,
 }
 

@@ -1,7 +1,7 @@
 // Tests and small functions on numbers.
 
 ghost use mathlib.Core.Path.{_≡_};
-ghost use mathlib.Core.Bool.{Bool, _&&_};
+ghost use mathlib.Core.Bool.{_&&_};
 ghost use Prim.Native.Nat.{min, max};
 ghost use Rattle.model.specs.Numbers.{finite};
 

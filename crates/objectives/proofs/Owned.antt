@@ -1,7 +1,7 @@
 -- One owner after another: blocks, and the index. Assumes nothing.
 use mathlib.Core.Path.{_≡_, refl, sym, ap, subst, _∙_}
 use mathlib.Core.List.{List, [], _∷_, _++_, append-nil}
-use Prim.Native.Nat.{ℕ, _+_, _*_, _-_, _≤_, _<_}
+use Prim.Native.Nat.{ℕ, _+_, _*_, _≤_, _<_}
 use native.Mathlib.Nat.{add-zero, mul-suc}
 use native.Mathlib.Numerals.{add-one}
 use native.Mathlib.Omega.{arith}
@@ -23,7 +23,7 @@ use Rattle.model.proofs.Sums.{joined-append}
 use Rattle.model.proofs.Counted.{same-counts}
 use Rattle.model.proofs.Owned.{owners-length, objectives-blocks, eights-length}
 use Rattle.model.proofs.Slices.{sized}
-use Rattle.buffers.specs.Buffers.{State, state, emit, Built}
+use Rattle.buffers.specs.Buffers.{State, emit, Built}
 use Rattle.buffers.specs.Owned.{countsOf, ownerBetween, reowned, PutsOwner}
 use Rattle.buffers.proofs.Laws.{sets-append}
 use Rattle.objectives.specs.Blocks.{pair, together}
@@ -44,9 +44,9 @@ module _ {s s′ : State} {x : Block} {b : ℕ} (p : Built s s′ x b) where
   built-counts =
       let z = sized x in
       ap (λ u. countsOf (u .tally)) (p .says)
-      ∙ same-counts (ap (λ (k : ℕ). s .tally .entries + k) (z .entries (s .tally .rows))) (ap (λ (k : ℕ). s .tally .rows + k) (z .rows)) (ap (λ (k : ℕ). s .tally .cones + k) (z .cones)) (ap (λ (k : ℕ). s .tally .columns + k) (z .columns))
+      ∙ same-counts (ap (λ (k : ℕ). s .tally .entries + k) (z .entries (s .tally .rows .at))) (ap (λ (k : ℕ). s .tally .rows .at + k) (z .rows)) (ap (λ (k : ℕ). s .tally .cones + k) (z .cones)) (ap (λ (k : ℕ). s .tally .columns .at + k) (z .columns))
 
-  pub built-grows : (s .tally .entries ≤ s′ .tally .entries) × (s .tally .rows ≤ s′ .tally .rows) × (s .tally .cones ≤ s′ .tally .cones) × (s .tally .columns ≤ s′ .tally .columns)
+  pub built-grows : (s .tally .entries ≤ s′ .tally .entries) × (s .tally .rows .at ≤ s′ .tally .rows .at) × (s .tally .cones ≤ s′ .tally .cones) × (s .tally .columns .at ≤ s′ .tally .columns .at)
   built-grows =
       let e = built-counts in (
         omega (arith, ap (λ (c : FourCounts). c .entries) e),
@@ -125,7 +125,7 @@ module _ {s s′ : State} {x x′ : List ℕ} {bs : List Block} {b : ℕ} (g : B
 
 -- the owners of i objectives, each moving the counts by at most b
 pub record OwnedAll (s s′ : State) (x x′ : List ℕ) (p : Problem) (os : List Objective) (i b : ℕ) : Type 0 where
-  pub owners : BuiltOwners s s′ x x′ (objectiveBlocks p (s .tally .columns) (take i os)) (b * i)
+  pub owners : BuiltOwners s s′ x x′ (objectiveBlocks p (s .tally .columns .at) (take i os)) (b * i)
 
 module _ {s : State} {x : List ℕ} {p : Problem} {os : List Objective} {b : ℕ} where
   pub owned-none : OwnedAll s s x x p os 0 b
@@ -133,20 +133,20 @@ module _ {s : State} {x : List ℕ} {p : Problem} {os : List Objective} {b : ℕ
   owned-none = record { owners = owners-none }
 
   module _ {s′ : State} {x′ : List ℕ} {i : ℕ} (g : OwnedAll s s′ x x′ p os i b) where
-    pub owned-more : {u : State} {t : Tally} {x″ : List ℕ} → Built s′ u (objectiveBlock p (s′ .tally .columns) (getD os i (Time nan))) b
+    pub owned-more : {u : State} {t : Tally} {x″ : List ℕ} → Built s′ u (objectiveBlock p (s′ .tally .columns .at) (getD os i (Time nan))) b
         → PutsOwner (s′ .tally) (u .tally) x′ t x″ → i < length os → OwnedAll s (tallied t u) x x″ p os (i + 1) b
     owned-more {u} h q l =
-        let c = s .tally .columns in
+        let c = s .tally .columns .at in
         let bs = objectiveBlocks p c (take i os) in
         let k : Built s′ u (objectiveBlock p (c + length (together bs .cost)) (getD os i (Time nan))) b =
         subst (λ (z : ℕ). Built s′ u (objectiveBlock p z (getD os i (Time nan))) b) (built-width (g .owners .built)) h in
         record { owners = rw (add-one, blocks-snoc p c i os l, mul-suc) (owners-most (owners-then (g .owners) (owners-one k q)) (omega arith)) }
 
-    pub owned-end : {m c : ℕ} → i ≤ m → m ≤ i → b * m ≤ c → BuiltOwners s s′ x x′ (objectiveBlocks p (s .tally .columns) (take m os)) c
+    pub owned-end : {m c : ℕ} → i ≤ m → m ≤ i → b * m ≤ c → BuiltOwners s s′ x x′ (objectiveBlocks p (s .tally .columns .at) (take m os)) c
     owned-end {m} h l z =
         let e : i ≡ m = omega arith in
-        owners-most (subst (λ (j : ℕ). BuiltOwners s s′ x x′ (objectiveBlocks p (s .tally .columns) (take j os)) (b * j)) e (g .owners)) z
+        owners-most (subst (λ (j : ℕ). BuiltOwners s s′ x x′ (objectiveBlocks p (s .tally .columns .at) (take j os)) (b * j)) e (g .owners)) z
 
     -- the owner being written
     pub owned-owner : s′ .tally .owner ≤ s .tally .owner + i
-    owned-owner = omega (arith, g .owners .owner, objectives-blocks p (s .tally .columns) (take i os), length-take i os)
+    owned-owner = omega (arith, g .owners .owner, objectives-blocks p (s .tally .columns .at) (take i os), length-take i os)

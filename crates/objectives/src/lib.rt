@@ -1,13 +1,13 @@
 // The objectives, one after another, each with columns of its own.
 
-ghost use mathlib.Core.Path.{_≡_};
-ghost use mathlib.Core.List.{List};
-ghost use Prim.Native.Nat.{ℕ, _+_, _*_, _^_, _<_, _≤_};
+ghost use Prim.Native.Nat.{_+_, _^_, _<_, _≤_};
 ghost use lib.Ieee.{nan};
-ghost use lib.ListN.{length, getD, take};
+ghost use lib.ListN.{getD, take};
+ghost use Rattle.model.specs.Lent.{atEntry};
 ghost use Rattle.model.specs.Objectives.{objectiveBlock};
 ghost use Rattle.model.specs.declared.Objective.the-variants.{Time};
 ghost use Rattle.model.specs.Assembled.{objectiveBlocks};
+ghost use Rattle.buffers.specs.Bounds.{objectiveRoom, objectivesRoom};
 ghost use Rattle.buffers.specs.Lent.{RoomAll, built};
 ghost use Rattle.buffers.specs.Inputs.{path, Sized, torqueOf};
 ghost use Rattle.objectives.specs.Input.{lends, Ready, AllReady};
@@ -23,35 +23,82 @@ use stages::total_variation_torque_by_value as tv_torque;
 // One objective. The buffers have the letters of crate buffers' `built`. Linear has no rows: what it adds to the cost stands there from the start.
 fn objective(
     t: Tally,
-    r: &mut [u32],
-    c: &mut [u32],
-    v: &mut [f64],
-    h: &mut [f64],
-    k: &mut [u8],
-    m: &mut [u32],
-    q: &mut [f64],
-    s: &[f64],
-    e: Ends,
-    y: &[f64],
-    ta: &[f64],
-    tb: &[f64],
-    tg: &[f64],
+    rows: &mut [u32],
+    columns: &mut [u32],
+    values: &mut [f64],
+    right: &mut [f64],
+    kinds: &mut [u8],
+    dimensions: &mut [u32],
+    cost: &mut [f64],
+    grid: &[f64],
+    ends: Ends,
+    thermal: &[f64],
+    torque_a: &[f64],
+    torque_b: &[f64],
+    torque_g: &[f64],
     d: usize,
     pool: &[f64],
     o: Objective,
 ) -> Tally
-    requires { ⌜ RoomAll t 262336 × Sized (now s) e × Ready (lends (path (now s) e) (now y) (torqueOf d (now ta) (now tb) (now tg)) (now pool)) o ⌝ }
-    ensures { λ r′. ⌜ built t r c v h k m q r′ (objectiveBlock (lends (path (now (s .entry)) e) (now (y .entry)) (torqueOf d (now (ta .entry)) (now (tb .entry)) (now (tg .entry))) (now (pool .entry))) (t .columns) o) 262336 ⌝ }
+    requires { ⌜ RoomAll t objectiveRoom × Sized (now grid) ends × Ready (lends (path (now grid) ends) (now thermal) (torqueOf d (now «torque_a») (now «torque_b») (now «torque_g»)) (now pool)) o ⌝ }
+    ensures { λ r′. ⌜ built t rows columns values right kinds dimensions cost r′ (objectiveBlock (lends (path (atEntry grid) ends) (atEntry thermal) (torqueOf d (atEntry «torque_a») (atEntry «torque_b») (atEntry «torque_g»)) (atEntry pool)) (t .columns .at) o) objectiveRoom ⌝ }
 {
     match o {
-        Objective::Time(w) => time(t, r, c, v, h, k, m, q, s, e, w),
+        Objective::Time(w) => time(
+            t,
+            rows,
+            columns,
+            values,
+            right,
+            kinds,
+            dimensions,
+            cost,
+            grid,
+            ends,
+            w,
+        ),
         Objective::ThermalEnergy { weight, start, len } => {
             let x = &pool[start..start + len];
-            thermal_energy(t, r, c, v, h, k, m, q, s, e, y, ta, tb, tg, x, d, weight)
+            thermal_energy(
+                t,
+                rows,
+                columns,
+                values,
+                right,
+                kinds,
+                dimensions,
+                cost,
+                grid,
+                ends,
+                thermal,
+                torque_a,
+                torque_b,
+                torque_g,
+                x,
+                d,
+                weight,
+            )
         }
         Objective::TotalVariationTorque { weight, start, len } => {
             let x = &pool[start..start + len];
-            tv_torque(t, r, c, v, h, k, m, q, s, e, ta, tb, tg, x, d, weight)
+            tv_torque(
+                t,
+                rows,
+                columns,
+                values,
+                right,
+                kinds,
+                dimensions,
+                cost,
+                grid,
+                ends,
+                torque_a,
+                torque_b,
+                torque_g,
+                x,
+                d,
+                weight,
+            )
         }
         Objective::Linear {
             weight: _,
@@ -66,76 +113,94 @@ fn objective(
 // Objective number i.
 fn objective_at(
     t: Tally,
-    r: &mut [u32],
-    c: &mut [u32],
-    v: &mut [f64],
-    h: &mut [f64],
-    k: &mut [u8],
-    m: &mut [u32],
-    q: &mut [f64],
-    s: &[f64],
-    e: Ends,
-    y: &[f64],
-    ta: &[f64],
-    tb: &[f64],
-    tg: &[f64],
+    rows: &mut [u32],
+    columns: &mut [u32],
+    values: &mut [f64],
+    right: &mut [f64],
+    kinds: &mut [u8],
+    dimensions: &mut [u32],
+    cost: &mut [f64],
+    grid: &[f64],
+    ends: Ends,
+    thermal: &[f64],
+    torque_a: &[f64],
+    torque_b: &[f64],
+    torque_g: &[f64],
     d: usize,
     pool: &[f64],
-    os: [Objective; 16],
+    objectives: [Objective; 16],
     i: usize,
 ) -> Tally
-    requires { ⌜ RoomAll t 262336 × Sized (now s) e × (i < 16) × Ready (lends (path (now s) e) (now y) (torqueOf d (now ta) (now tb) (now tg)) (now pool)) (getD os i (Time nan)) ⌝ }
-    ensures { λ r′. ⌜ built t r c v h k m q r′ (objectiveBlock (lends (path (now (s .entry)) e) (now (y .entry)) (torqueOf d (now (ta .entry)) (now (tb .entry)) (now (tg .entry))) (now (pool .entry))) (t .columns) (getD os i (Time nan))) 262336 ⌝ }
+    requires { ⌜ RoomAll t objectiveRoom × Sized (now grid) ends × (i < 16) × Ready (lends (path (now grid) ends) (now thermal) (torqueOf d (now «torque_a») (now «torque_b») (now «torque_g»)) (now pool)) (getD objectives i (Time nan)) ⌝ }
+    ensures { λ r′. ⌜ built t rows columns values right kinds dimensions cost r′ (objectiveBlock (lends (path (atEntry grid) ends) (atEntry thermal) (torqueOf d (atEntry «torque_a») (atEntry «torque_b») (atEntry «torque_g»)) (atEntry pool)) (t .columns .at) (getD objectives i (Time nan))) objectiveRoom ⌝ }
 {
-    let o = os[i];
-    objective(t, r, c, v, h, k, m, q, s, e, y, ta, tb, tg, d, pool, o)
+    let o = objectives[i];
+    objective(
+        t,
+        rows,
+        columns,
+        values,
+        right,
+        kinds,
+        dimensions,
+        cost,
+        grid,
+        ends,
+        thermal,
+        torque_a,
+        torque_b,
+        torque_g,
+        d,
+        pool,
+        o,
+    )
 }
 
 // All that count, each an owner of its own in the index.
 pub fn clarabel_objective_copp3(
     t: Tally,
     rows: &mut [u32],
-    cols: &mut [u32],
-    vals: &mut [f64],
+    columns: &mut [u32],
+    values: &mut [f64],
     right: &mut [f64],
     kinds: &mut [u8],
-    dims: &mut [u32],
+    dimensions: &mut [u32],
     cost: &mut [f64],
-    s: &[f64],
-    e: Ends,
-    y: &[f64],
-    ta: &[f64],
-    tb: &[f64],
-    tg: &[f64],
+    grid: &[f64],
+    ends: Ends,
+    thermal: &[f64],
+    torque_a: &[f64],
+    torque_b: &[f64],
+    torque_g: &[f64],
     d: usize,
     pool: &[f64],
-    os: [Objective; 16],
+    objectives: [Objective; 16],
     count: usize,
     index: &mut [usize],
 ) -> Tally
-    requires { ⌜ RoomAll t 4197376 × (t .owner < 2 ^ 32) × Sized (now s) e × (count ≤ 16) × AllReady (lends (path (now s) e) (now y) (torqueOf d (now ta) (now tb) (now tg)) (now pool)) os count ⌝ }
-    ensures { λ r. ⌜ builtOwners t rows cols vals right kinds dims cost index r (objectiveBlocks (lends (path (now (s .entry)) e) (now (y .entry)) (torqueOf d (now (ta .entry)) (now (tb .entry)) (now (tg .entry))) (now (pool .entry))) (t .columns) (take count os)) 4197376 ⌝ }
+    requires { ⌜ RoomAll t objectivesRoom × (t .owner < 2 ^ 32) × Sized (now grid) ends × (count ≤ 16) × AllReady (lends (path (now grid) ends) (now thermal) (torqueOf d (now «torque_a») (now «torque_b») (now «torque_g»)) (now pool)) objectives count ⌝ }
+    ensures { λ r. ⌜ builtOwners t rows columns values right kinds dimensions cost index r (objectiveBlocks (lends (path (atEntry grid) ends) (atEntry thermal) (torqueOf d (atEntry «torque_a») (atEntry «torque_b») (atEntry «torque_g»)) (atEntry pool)) (t .columns .at) (take count objectives)) objectivesRoom ⌝ }
 {
     let mut u = t;
     for i in 0..count {
         let w = objective_at(
             u,
             rows,
-            cols,
-            vals,
+            columns,
+            values,
             right,
             kinds,
-            dims,
+            dimensions,
             cost,
-            s,
-            e,
-            y,
-            ta,
-            tb,
-            tg,
+            grid,
+            ends,
+            thermal,
+            torque_a,
+            torque_b,
+            torque_g,
             d,
             pool,
-            os,
+            objectives,
             i,
         );
         u = put_owner(u, w, index);

@@ -3,6 +3,7 @@
 ghost use mathlib.Core.Path.{_≡_};
 ghost use Prim.Native.Nat.{_+_, _*_, _<_};
 ghost use lib.ListN.{length};
+ghost use Rattle.model.specs.Lent.{atEntry};
 ghost use Rattle.model.specs.OwnerAnswers;
 ghost use Rattle.model.specs.OwnerAnswers.{toldOwner, ownedBy, inRange, ownerOf, ownerOfRow, ownerOfColumn};
 use model::Column;
@@ -22,7 +23,7 @@ fn in_range(first: usize, size: usize, r: usize) -> bool
 // Range f of owner k holds r.
 fn within(index: &[usize], f: usize, r: usize, k: usize) -> bool
     requires { ⌜ 8 * k + f + 4 < length (now index) ⌝ }
-    ensures { λ b. ⌜ b ≡ OwnerAnswers.within (now (index .entry)) f r k ⌝ }
+    ensures { λ b. ⌜ b ≡ OwnerAnswers.within (atEntry index) f r k ⌝ }
 {
     let at = 8 * k + f;
     let first = index[at];
@@ -46,7 +47,7 @@ fn owned_by(k: usize) -> OwnerAnswer
 // The lowest owner whose range f (0 entries, 1 rows, 2 cones, 3 columns) holds r. The product 8·(objectives + 2) could wrap, so the length is divided.
 fn owner_of(index: &[usize], f: usize, objectives: usize, r: usize) -> OwnerAnswer
     requires { ⌜ f < 4 ⌝ }
-    ensures { λ a. ⌜ toldOwner a ≡ ownerOf f (now (index .entry)) objectives r ⌝ }
+    ensures { λ a. ⌜ toldOwner a ≡ ownerOf f (atEntry index) objectives r ⌝ }
 {
     let owners = index.len() / 8;
     if owners < 2 {
@@ -67,14 +68,14 @@ fn owner_of(index: &[usize], f: usize, objectives: usize, r: usize) -> OwnerAnsw
 
 // The owner of a row.
 pub fn owner_of_row(index: &[usize], objectives: usize, row: Row) -> OwnerAnswer
-    ensures { λ a. ⌜ toldOwner a ≡ ownerOfRow (now (index .entry)) objectives (row .at) ⌝ }
+    ensures { λ a. ⌜ toldOwner a ≡ ownerOfRow (atEntry index) objectives (row .at) ⌝ }
 {
     owner_of(index, 1, objectives, row.at)
 }
 
 // The owner of a column; below 2n+2 no range of an assembled index holds it.
 pub fn owner_of_column(index: &[usize], objectives: usize, column: Column) -> OwnerAnswer
-    ensures { λ a. ⌜ toldOwner a ≡ ownerOfColumn (now (index .entry)) objectives (column .at) ⌝ }
+    ensures { λ a. ⌜ toldOwner a ≡ ownerOfColumn (atEntry index) objectives (column .at) ⌝ }
 {
     owner_of(index, 3, objectives, column.at)
 }

@@ -1,8 +1,8 @@
 -- What the program's block leaves from the start: the model's lists in the buffers, its lengths in the tally. Assumes nothing.
-use mathlib.Core.Path.{_≡_, sym, ap, subst, _∙_}
+use mathlib.Core.Path.{_≡_, sym, ap, _∙_}
 use mathlib.Core.Bool.{Bool, not}
 use mathlib.Core.List.{List, _++_}
-use Prim.Native.Nat.{ℕ, _+_, _*_, _≤_}
+use Prim.Native.Nat.{ℕ, _+_, _≤_}
 use native.Mathlib.Nat.{zero-add}
 use native.Mathlib.Omega.{arith}
 use lib.Ieee.{Float}
@@ -14,7 +14,7 @@ use Rattle.model.specs.Assembled.{cones, bands, entries, rightSide, cost, rowNu
 use Rattle.model.specs.Counts.{counts}
 use Rattle.model.specs.Verdicts.{_then_, refuse}
 use Rattle.model.specs.Refusals.{refusal}
-use Rattle.model.specs.Answers.{Buffers, told, outcome, lengths, roomRefusal, indexRefusal, everyFinite, finiteRefusal, verdictOf, written, assembly}
+use Rattle.model.specs.Answers.{Buffers, buffers, told, answered, outcome, lengths, roomRefusal, indexRefusal, everyFinite, finiteRefusal, verdictOf, written, assembly}
 use Rattle.model.specs.Answers as answers
 use Rattle.model.specs.Owners.{index, indexPlaces}
 use Rattle.model.specs.declared.Verdict.{Verdict}
@@ -25,10 +25,10 @@ use Rattle.model.specs.declared.Tally.{Tally}
 use Rattle.model.proofs.Passes.{then-passes}
 use Rattle.model.proofs.Owned.{index-length}
 use Rattle.model.proofs.Room.{Enough, room-passes, HasIndex, index-passes}
-use Rattle.buffers.specs.Buffers.{State, state, emit}
+use Rattle.buffers.specs.Buffers.{State, state, tallyOf, emit}
 use Rattle.buffers.specs.Owned.{reowned}
 use Rattle.objectives.proofs.Blocks.{built-most}
-use Rattle.passes.specs.Program.{startAt, finished, Complete, buffers, answered}
+use Rattle.passes.specs.Program.{startAt, finished, Complete}
 
 sets-front {ℓ} : {A : Type ℓ} (l vs : List A) → length vs ≤ length l → sets l 0 vs ≡ vs ++ drop (length vs) l
 sets-front l vs h = sets-eq vs l 0 (rw zero-add h) ∙ ap (λ k. vs ++ drop k l) (zero-add (length vs))
@@ -46,13 +46,7 @@ module _ (p : Problem) {R C : List ℕ} {W H : List Float} {K D : List ℕ} {Q :
   unfolding emit values entries rightSide bands
   landed-tally =
       (λ i. reowned (g .owner i) (g .built .says i .tally))
-      ∙ (λ i. record {
-        entries = zero-add (length (entries p)) i;
-        rows = zero-add (length (rightSide p)) i;
-        cones = zero-add (length (cones p)) i;
-        columns = zero-add (length (cost p)) i;
-        owner = length (objectives p) + 2;
-      })
+      ∙ (λ i. tallyOf (zero-add (length (entries p)) i) (zero-add (length (rightSide p)) i) (zero-add (length (cones p)) i) (zero-add (length (cost p)) i) (length (objectives p) + 2))
 
   module _ (same : listLengths p ≡ counts p) (f : Enough (counts p) (buffers R C W H K D Q x)) (has : HasIndex p (buffers R C W H K D Q x)) where
     landed : buffers R′ C′ W′ H′ K′ D′ Q′ x′ ≡ written p (buffers R C W H K D Q x)
@@ -65,11 +59,11 @@ module _ (p : Problem) {R C : List ℕ} {W H : List Float} {K D : List ℕ} {Q :
         let s = g .built .says in
         λ i. record {
           rows = (ap (λ x. x .rows) s ∙ sets-front R (rowNumbers p) (rw (length-map, e) (f 0 (omega arith)))) i;
-          columns = (ap (λ x. x .cols) s ∙ sets-front C (columnNumbers p) (rw (length-map, e) (f 1 (omega arith)))) i;
-          values = (ap (λ x. x .vals) s ∙ sets-front W (values p) (rw (length-map, e) (f 2 (omega arith)))) i;
+          columns = (ap (λ x. x .columns) s ∙ sets-front C (columnNumbers p) (rw (length-map, e) (f 1 (omega arith)))) i;
+          values = (ap (λ x. x .values) s ∙ sets-front W (values p) (rw (length-map, e) (f 2 (omega arith)))) i;
           right = (ap (λ x. x .right) s ∙ sets-front H (rightSide p) (rw r (f 3 (omega arith)))) i;
           kinds = (ap (λ x. x .kinds) s ∙ sets-front K (coneKinds p) (rw (length-map, c) (f 4 (omega arith)))) i;
-          dimensions = (ap (λ x. x .dims) s ∙ sets-front D (coneDimensions p) (rw (length-map, c) (f 5 (omega arith)))) i;
+          dimensions = (ap (λ x. x .dimensions) s ∙ sets-front D (coneDimensions p) (rw (length-map, c) (f 5 (omega arith)))) i;
           cost = (ap (λ x. x .cost) s ∙ sets-front Q (cost p) (rw k (f 6 (omega arith)))) i;
           index = (g .index ∙ sets-front x (index p) (rw (index-length p) has)) i;
         }
@@ -101,14 +95,14 @@ module _ (p : Problem) (b : Buffers) {v : Verdict} (e : v ≡ verdictOf p (lengt
 
   pub done : {R C : List ℕ} {W H : List Float} {K D : List ℕ} {Q : List Float} {t : Tally} {x : List ℕ} {k : ℕ} → v ≡ Accepted → listLengths p ≡ counts p
       → Complete (state (b .rows) (b .columns) (b .values) (b .right) (b .kinds) (b .dimensions) (b .cost) (startAt 0)) (state R C W H K D Q t) (b .index) x p k
-      → answered (Counts (t .entries) (t .rows) (t .cones) (t .columns)) (buffers R C W H K D Q x) ≡ assembly p b
+      → answered (Counts (t .entries) (t .rows .at) (t .cones) (t .columns .at)) (buffers R C W H K D Q x) ≡ assembly p b
   unfolding assembly answers.result outcome listLengths
   done {t} f same g =
       let h = landed p g same (passes f .1 .0) (passes f .1 .1 .0) in
       let tally = landed-tally p g in
       rw (sym e ∙ f)
       (λ i. record {
-        told = (ap (λ (z : Tally). told (Counts (z .entries) (z .rows) (z .cones) (z .columns))) tally
+        told = (ap (λ (z : Tally). told (Counts (z .entries) (z .rows .at) (z .cones) (z .columns .at))) tally
             ∙ ap (λ (z : FourCounts). told (Counts (z .entries) (z .rows) (z .cones) (z .columns))) same) i;
         buffers = h i;
       })

@@ -2,14 +2,14 @@
 use mathlib.Core.Path.{_≡_, refl, sym, ap, ap₂, _∙_}
 use mathlib.Core.Bool.{Bool, true, false, cond, _&&_}
 use mathlib.Core.List.{List}
-use Prim.Native.Nat.{ℕ, _+_, _*_, _-_}
+use Prim.Native.Nat.{ℕ, _+_, _*_}
 use lib.Ieee.{Float, neg, ofBits}
 use Rattle.model.specs.Lists.{list, joined}
 use Rattle.model.specs.Problem.{Problem, Path, objectives, n, L, s, hasRoot}
 use Rattle.model.specs.Program.{Cone, positiveRow, nothing}
 use Rattle.model.specs.Standard.{rootCone, rootStage, standard, root}
 use Rattle.model.specs.Answers.{everyFinite}
-use Rattle.model.specs.Assembled.{width, objectiveBlocks, blocks, cones, bands, entries, rightSide, values, cost, allFinite}
+use Rattle.model.specs.Assembled.{width, objectiveBlocks, blocks, cones, bands, entries, rightSide, values, allFinite}
 use Rattle.model.specs.declared.Objective.{Objective}
 use Rattle.model.proofs.Sizes.{Sizes}
 use Rattle.buffers.proofs.Laws.{all-append}

@@ -1,6 +1,5 @@
 -- The two halves, one after the other, are the assembled program. Assumes nothing.
 use mathlib.Core.Path.{_≡_, refl, sym, ap, subst, _∙_}
-use mathlib.Core.Bool.{true}
 use mathlib.Core.List.{List, [], _∷_, _++_}
 use Prim.Native.Nat.{ℕ, _+_, _*_}
 use native.Mathlib.Omega.{arith}
@@ -64,23 +63,23 @@ module _ (p : Problem) where
 
   module _ {a b : State} {xs : List Float} {i : ℕ} (z : a .tally ≡ startAt 0) (f : Built a b (record { cones = standard p .cones; cost = xs; charges = [] }) i)
       (long : length xs ≡ 2 * (n (p .path) + 1)) where
-    at : b .tally .columns ≡ 2 * (n (p .path) + 1)
-    at = built-width f ∙ ap (λ (k : Tally). k .columns + length xs) z ∙ zero-add (length xs) ∙ long
+    at : b .tally .columns .at ≡ 2 * (n (p .path) + 1)
+    at = built-width f ∙ ap (λ (k : Tally). k .columns .at + length xs) z ∙ zero-add (length xs) ∙ long
 
     -- "the column tally starts at 2n+2, so the standard rows have none"
     standard-counts : countsOf (b .tally) ≡ tallyStart p plus sizeOf (standard p)
     unfolding sizeOf standard
     standard-counts = built-counts f ∙ ap (λ (k : Tally). countsOf k plus sizeOf (record { cones = standard p .cones; cost = xs; charges = [] })) z ∙ same-counts refl refl refl (omega arith)
 
-    first-owner : ownerBetween (startAt (b .tally .columns)) (b .tally) ≡ record { first = tallyStart p; size = sizeOf (standard p) }
+    first-owner : ownerBetween (startAt (b .tally .columns .at)) (b .tally) ≡ record { first = tallyStart p; size = sizeOf (standard p) }
     first-owner =
-        let e : fourCounts 0 0 0 (b .tally .columns) ≡ tallyStart p = ap (fourCounts 0 0 0) (at ∙ omega arith) in
-        owner-between (startAt (b .tally .columns)) (b .tally) (sizeOf (standard p)) (standard-counts ∙ ap (λ (k : FourCounts). k plus sizeOf (standard p)) (sym e))
+        let e : fourCounts 0 0 0 (b .tally .columns .at) ≡ tallyStart p = ap (fourCounts 0 0 0) (at ∙ omega arith) in
+        owner-between (startAt (b .tally .columns .at)) (b .tally) (sizeOf (standard p)) (standard-counts ∙ ap (λ (k : FourCounts). k plus sizeOf (standard p)) (sym e))
         ∙ ap (λ (k : FourCounts). record { first = k; size = sizeOf (standard p) }) e
 
-    module _ {c : State} {j : ℕ} {w t : Tally} {x x′ x″ : List ℕ} (begins : w ≡ startAt (b .tally .columns)) (stored : PutsOwner w (b .tally) x t x′)
-        (g : BuiltOwners (tallied t b) c x′ x″ (ownBlocks seen (t .columns) (objectives p)) j) where
-      h : PutsOwner (startAt (b .tally .columns)) (b .tally) x t x′
+    module _ {c : State} {j : ℕ} {w t : Tally} {x x′ x″ : List ℕ} (begins : w ≡ startAt (b .tally .columns .at)) (stored : PutsOwner w (b .tally) x t x′)
+        (g : BuiltOwners (tallied t b) c x′ x″ (ownBlocks seen (t .columns .at) (objectives p)) j) where
+      h : PutsOwner (startAt (b .tally .columns .at)) (b .tally) x t x′
       h = subst (λ (k : Tally). PutsOwner k (b .tally) x t x′) begins stored
 
       next : Tally
@@ -91,7 +90,7 @@ module _ (p : Problem) where
       unfolding next root
       later =
           subst (λ (k : ℕ). BuiltOwners (tallied next b) c x′ x″ (ownBlocks seen k (objectives p)) j) at
-          (subst (λ (k : Tally). BuiltOwners (tallied k b) c x′ x″ (ownBlocks seen (k .columns) (objectives p)) j) (h .next) g)
+          (subst (λ (k : Tally). BuiltOwners (tallied k b) c x′ x″ (ownBlocks seen (k .columns .at) (objectives p)) j) (h .next) g)
 
       pub whole-index : x″ ≡ sets x 0 (index p)
       unfolding next index owners blocks

@@ -2,6 +2,7 @@
 // line: the group's letter, the number of cases, and in how many of them sizing and the assembly do
 // as the list says. A case that the input's end cuts off, or that is longer than a piece, ends the
 // run with `cut off`.
+ghost use Rattle.model.specs.Lent.{atEntry, atExit};
 ghost use mathlib.Core.Path.{_≡_};
 ghost use Prim.Native.Nat.{_-_, _≤_};
 ghost use lib.ListN.{length, take, drop};
@@ -58,7 +59,7 @@ fn counted(tally: Tally, agrees: bool) -> Tally {
 
 // Replays the whole cases of a piece.
 fn replay_piece(s: &[u8], before: Tally) -> Piece
-    ensures { λ r. ⌜ r .rest ≤ length (now (s .entry)) ⌝ }
+    ensures { λ r. ⌜ r .rest ≤ length (atEntry s) ⌝ }
 {
     let mut tally = before;
     let mut at: usize = 0;
@@ -80,7 +81,7 @@ fn replay_piece(s: &[u8], before: Tally) -> Piece
 // Moves what stands from `from` on to the front.
 fn move_to_front(s: &mut [u8], from: usize)
     requires { ⌜ from ≤ length (now s) ⌝ }
-    ensures { λ _. ⌜ take (length (now (s .entry)) - from) (now (s .exit)) ≡ drop from (now (s .entry)) ⌝ }
+    ensures { λ _. ⌜ take (length (atEntry s) - from) (atExit s) ≡ drop from (atEntry s) ⌝ }
 {
     let n = s.len() - from;
     let mut i: usize = 0;
@@ -102,8 +103,8 @@ fn print_end(tally: Tally, held: usize) {
 // Reads on behind the `held` bytes at hand, and answers where what is at hand then ends.
 fn read_on(list: &mut [u8], held: usize) -> usize
     requires { ⌜ held ≤ length (now list) ⌝ }
-    ensures { λ r. ⌜ (held ≤ r) × (r ≤ length (now (list .exit))) ⌝ }
-    ensures { λ _. ⌜ take held (now (list .exit)) ≡ take held (now (list .entry)) ⌝ }
+    ensures { λ r. ⌜ (held ≤ r) × (r ≤ length (atExit list)) ⌝ }
+    ensures { λ _. ⌜ take held (atExit list) ≡ take held (atEntry list) ⌝ }
 {
     let n = io::read_full(0, &mut list[held..]);
     held + n
@@ -113,7 +114,7 @@ fn read_on(list: &mut [u8], held: usize) -> usize
 fn replay_held(list: &mut [u8], end: usize, tally: Tally) -> Piece
     requires { ⌜ end ≤ length (now list) ⌝ }
     ensures { λ r. ⌜ r .rest ≤ end ⌝ }
-    ensures { λ r. ⌜ take (r .rest) (now (list .exit)) ≡ drop (end - r .rest) (take end (now (list .entry))) ⌝ }
+    ensures { λ r. ⌜ take (r .rest) (atExit list) ≡ drop (end - r .rest) (take end (atEntry list)) ⌝ }
 {
     let piece = replay_piece(&list[..end], tally);
     let from = piece.rest;

@@ -8,7 +8,7 @@ use lib.Seq.{length-take-le}
 use lib.Ieee.{Float, binary64, ofBits, toBits, nan}
 use Rattle.model.specs.declared.Job.{Job}
 use Rattle.model.specs.Problem.{Problem}
-use Rattle.model.specs.Answers.{Buffers}
+use Rattle.model.specs.Answers.{Buffers, buffers}
 use Rattle.copp3_c.specs.declared.ObjectiveRecords.{ObjectiveRecords}
 use Rattle.copp3_c.specs.declared.AnswerRecord.{AnswerRecord}
 use Rattle.copp3_c.specs.Exported.{Exported, exported}
@@ -16,7 +16,6 @@ use Rattle.replay_list.specs.declared.input.Places.{Places}
 use Rattle.replay_list.specs.File.{itemAt, expectedNumber, expectedBits, expectedByte}
 use Rattle.replay_list.specs.Format.{heldAt}
 use Rattle.replay_list.specs.Agreement.{assembled, lentBuffers, placesHere, BuffersHold, LentFit, ResultAgrees}
-use Rattle.passes.specs.Program.{buffers}
 use Rattle.replay_list.proofs.Laws.{take-replicate, front-holds}
 
 -- a buffer of n places that held a, and what it holds after the call
@@ -47,7 +46,8 @@ abbrev pub joined : Buffers → Buffers → Buffers
 joined b c =
     buffers (b .rows ++ c .rows) (b .columns ++ c .columns) (b .values ++ c .values) (b .right ++ c .right) (b .kinds ++ c .kinds) (b .dimensions ++ c .dimensions) (b .cost ++ c .cost) (b .index ++ c .index)
 
-same-buffers : (b0 : List ℕ) (b1 : List ℕ) (b2 : List Float) (b3 : List Float) (b4 : List ℕ) (b5 : List ℕ) (b6 : List Float) (b7 : List ℕ) (c0 : List ℕ) (c1 : List ℕ) (c2 : List Float) (c3 : List Float) (c4 : List ℕ) (c5 : List ℕ) (c6 : List Float) (c7 : List ℕ) → b0 ≡ c0 → b1 ≡ c1 → b2 ≡ c2 → b3 ≡ c3 → b4 ≡ c4 → b5 ≡ c5 → b6 ≡ c6 → b7 ≡ c7 → buffers b0 b1 b2 b3 b4 b5 b6 b7 ≡ buffers c0 c1 c2 c3 c4 c5 c6 c7
+same-buffers : (b0 : List ℕ) (b1 : List ℕ) (b2 : List Float) (b3 : List Float) (b4 : List ℕ) (b5 : List ℕ) (b6 : List Float) (b7 : List ℕ) (c0 : List ℕ) (c1 : List ℕ) (c2 : List Float) (c3 : List Float) (c4 : List ℕ) (c5 : List ℕ)
+    (c6 : List Float) (c7 : List ℕ) → b0 ≡ c0 → b1 ≡ c1 → b2 ≡ c2 → b3 ≡ c3 → b4 ≡ c4 → b5 ≡ c5 → b6 ≡ c6 → b7 ≡ c7 → buffers b0 b1 b2 b3 b4 b5 b6 b7 ≡ buffers c0 c1 c2 c3 c4 c5 c6 c7
 same-buffers b0 b1 b2 b3 b4 b5 b6 b7 c0 c1 c2 c3 c4 c5 c6 c7 h0 h1 h2 h3 h4 h5 h6 h7 = cc
 
 module _ (s : List ℕ) (at : ℕ) (entry exit : Buffers) (all : AllLent (itemAt s at) entry exit) where

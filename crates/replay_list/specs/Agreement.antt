@@ -5,11 +5,10 @@ use mathlib.Core.Bool.{true, cond}
 use mathlib.Core.List.{List}
 use lib.Dec.{eqb, leb}
 use lib.ListN.{getD, length, replicate}
-use lib.Ieee.{Float, binary64, ofBits}
+use lib.Ieee.{binary64, ofBits}
 use Rattle.model.specs.declared.Job.{Job}
 use Rattle.model.specs.Problem.{Problem}
-use Rattle.model.specs.Answers.{Buffers}
-use Rattle.passes.specs.Program.{buffers}
+use Rattle.model.specs.Answers.{Buffers, buffers}
 use Rattle.copp3_c.specs.declared.ObjectiveRecords.{ObjectiveRecords}
 use Rattle.copp3_c.specs.declared.AnswerRecord.{AnswerRecord}
 use Rattle.copp3_c.specs.Exported.{Exported, sizedAs, assembledAs}

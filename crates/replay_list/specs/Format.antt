@@ -1,7 +1,7 @@
 -- A case of the list that begins at `at`, in the order of the format's text (rust/vectors/src/main.rs).
 use Prim.Native.Nat.{ℕ, zero, suc, _+_, _-_}
 use mathlib.Core.Bool.{cond}
-use mathlib.Core.List.{List, [], _∷_, map}
+use mathlib.Core.List.{List, [], _∷_}
 use lib.Dec.{eqb, leb, ltb}
 use lib.ListN.{getD, length, take, drop}
 use lib.Ieee.{Float, binary64, ofBits}
@@ -10,7 +10,7 @@ use Rattle.model.specs.Problem.{Problem, problem}
 use Rattle.copp3_c.specs.declared.ObjectiveRecord.{ObjectiveRecord}
 use Rattle.copp3_c.specs.declared.ObjectiveRecords.{ObjectiveRecords}
 use Rattle.copp3_c.specs.declared.AnswerRecord.{AnswerRecord}
-use Rattle.copp3_c.specs.Exported.{objectiveOf}
+use Rattle.copp3_c.specs.Exported.{objectivesOf}
 use Rattle.replay_list.specs.declared.case.Held.{Held}
 use Rattle.replay_list.specs.declared.input.Places.{Places}
 use Rattle.replay_list.specs.File.{placeAfter, longAt, floatAt, itemAt}
@@ -136,7 +136,7 @@ recordsFrom s at n = record { items = each (recordOrNone s at n) 16 }
 -- the problem of a job and its records over the lists of floats and tables 0 and 1
 unfoldable pub problemWith : Job → ObjectiveRecords → (ℕ → List Float) → List ℕ → List ℕ → Problem
 problemWith job records list t0 t1 =
-    problem job (map objectiveOf (records .items)) (list 0) t0 t1 (list 3) (list 4) (list 5) (list 6) (list 7) (list 8) (list 9) (list 10) (list 11)
+    problem job (objectivesOf records) (list 0) t0 t1 (list 3) (list 4) (list 5) (list 6) (list 7) (list 8) (list 9) (list 10) (list 11)
     (list 12) (list 13) (list 14) (list 15) (list 16) (list 17)
 
 abbrev pub recordsAt : List ℕ → ℕ → ObjectiveRecords

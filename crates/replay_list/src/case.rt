@@ -4,11 +4,11 @@ ghost use mathlib.Core.Bool.{true};
 ghost use Prim.Native.Nat.{_≤_};
 ghost use lib.Dec.{leb};
 ghost use lib.ListN.{getD};
+ghost use Rattle.model.specs.Lent.{atEntry, buffersBefore};
 ghost use Rattle.copp3_c.specs.Exported.{exported};
 ghost use Rattle.replay_list.specs.File.{itemAt};
 ghost use Rattle.replay_list.specs.Format.{part, listIn, startsAt, placesAt, problemWith, sizingAt, assemblyAt, indexWritten, heldAt};
 ghost use Rattle.replay_list.specs.Agreement.{assembled, lentBuffers, placesHere, BuffersHold, LentFit, ResultAgrees, Agrees, ToldOf};
-ghost use Rattle.passes.specs.Program.{buffers};
 use crate::compare::BYTE;
 use crate::compare::FLOAT;
 use crate::compare::LONG;
@@ -50,13 +50,13 @@ struct Held {
 }
 
 fn item(s: &[u8], at: usize, i: usize) -> usize
-    ensures { λ r. ⌜ r ≡ itemAt (now (s .entry)) at i ⌝ }
+    ensures { λ r. ⌜ r ≡ itemAt (atEntry s) at i ⌝ }
 {
     input::size_of(short_at(s, past(at, i, 4)))
 }
 
 fn sizing_at(s: &[u8], at: usize) -> AnswerRecord
-    ensures { λ r. ⌜ r ≡ sizingAt (now (s .entry)) at ⌝ }
+    ensures { λ r. ⌜ r ≡ sizingAt (atEntry s) at ⌝ }
 {
     AnswerRecord {
         number: item(s, at, 0),
@@ -70,7 +70,7 @@ fn sizing_at(s: &[u8], at: usize) -> AnswerRecord
 
 // The assembly's answer has sizing's counts where it accepts.
 fn assembly_at(s: &[u8], at: usize) -> AnswerRecord
-    ensures { λ r. ⌜ r ≡ assemblyAt (now (s .entry)) at ⌝ }
+    ensures { λ r. ⌜ r ≡ assemblyAt (atEntry s) at ⌝ }
 {
     let number = item(s, at, 6);
     let place = item(s, at, 7);
@@ -149,7 +149,7 @@ fn buffers_agree(
     cost: &[f64; 128],
     index: &[usize; 160],
 ) -> bool
-    ensures { λ t. ⌜ (t ≡ true → BuffersHold (now (s .entry)) at counts written placesHere (buffers (now (rows .entry)) (now (columns .entry)) (now (values .entry)) (now (right .entry)) (now (kinds .entry)) (now (dimensions .entry)) (now (cost .entry)) (now (index .entry)))) ⌝ }
+    ensures { λ t. ⌜ (t ≡ true → BuffersHold (atEntry s) at counts written placesHere (buffersBefore rows columns values right kinds dimensions cost index)) ⌝ }
 {
     let held = held_at(at, counts, written);
     let entries = numbers_agree(s, at, counts.entries, rows)
@@ -179,7 +179,7 @@ fn result_agrees(
     cost: &[f64; 128],
     index: &[usize; 160],
 ) -> bool
-    ensures { λ t. ⌜ (t ≡ true → ResultAgrees (now (s .entry)) places count placesHere (exported answer (buffers (now (rows .entry)) (now (columns .entry)) (now (values .entry)) (now (right .entry)) (now (kinds .entry)) (now (dimensions .entry)) (now (cost .entry)) (now (index .entry))))) ⌝ }
+    ensures { λ t. ⌜ (t ≡ true → ResultAgrees (atEntry s) places count placesHere (exported answer (buffersBefore rows columns values right kinds dimensions cost index))) ⌝ }
 {
     let expected = assembly_at(s, places.answers);
     let written = index_written(count, expected);
@@ -210,7 +210,7 @@ fn assembly_agrees(
     starts: &[usize; 19],
 ) -> bool
     requires { ⌜ LentFit (now s) (places .lengths) ⌝ }
-    ensures { λ t. ⌜ (t ≡ true → ResultAgrees (now (s .entry)) places (job .count) (itemAt (now (s .entry)) (places .lengths)) (assembled job records (problemWith job records (listIn (now (floats .entry)) (now (starts .entry))) (part (now (numbers .entry)) 0 (places .split)) (part (now (numbers .entry)) (places .split) (places .end))) (lentBuffers (now (s .entry)) (places .lengths)))) ⌝ }
+    ensures { λ t. ⌜ (t ≡ true → ResultAgrees (atEntry s) places (job .count) (itemAt (atEntry s) (places .lengths)) (assembled job records (problemWith job records (listIn (atEntry floats) (atEntry starts)) (part (atEntry numbers) 0 (places .split)) (part (atEntry numbers) (places .split) (places .end))) (lentBuffers (atEntry s) (places .lengths)))) ⌝ }
 {
     let mut rows = [NUMBER; 128];
     let mut columns = [NUMBER; 128];
@@ -253,14 +253,14 @@ fn assembly_agrees(
 }
 
 fn fits_at(s: &[u8], at: usize, i: usize) -> bool
-    ensures { λ r. ⌜ r ≡ leb (itemAt (now (s .entry)) at i) 128 ⌝ }
+    ensures { λ r. ⌜ r ≡ leb (itemAt (atEntry s) at i) 128 ⌝ }
 {
     item(s, at, i) <= 128
 }
 
 // Whether the buffers' lengths are within the arrays here.
 fn buffers_fit(s: &[u8], lengths: usize) -> bool
-    ensures { λ r. ⌜ (r ≡ true → LentFit (now (s .entry)) lengths) ⌝ }
+    ensures { λ r. ⌜ (r ≡ true → LentFit (atEntry s) lengths) ⌝ }
 {
     let entries = fits_at(s, lengths, 0) & fits_at(s, lengths, 1) & fits_at(s, lengths, 2);
     let cones = fits_at(s, lengths, 4) & fits_at(s, lengths, 5);
@@ -270,7 +270,7 @@ fn buffers_fit(s: &[u8], lengths: usize) -> bool
 
 // Whether the case is within the arrays here.
 fn fits(s: &[u8], at: usize, starts: &[usize; 19], places: Places) -> bool
-    ensures { λ r. ⌜ (r ≡ true → (getD (now (starts .entry)) 18 0 ≤ 128) × (places .end ≤ 64) × LentFit (now (s .entry)) (places .lengths)) ⌝ }
+    ensures { λ r. ⌜ (r ≡ true → (getD (atEntry starts) 18 0 ≤ 128) × (places .end ≤ 64) × LentFit (atEntry s) (places .lengths)) ⌝ }
 {
     let input = (starts[18] <= 128) & (places.end <= 64) & (length_at(s, at, 18) <= 16);
     input & buffers_fit(s, places.lengths)
@@ -280,7 +280,7 @@ fn case_agrees(s: &[u8], at: usize, starts: &[usize; 19], places: Places) -> boo
     requires { ⌜ now starts ≡ startsAt (now s) at ⌝ }
     requires { ⌜ places ≡ placesAt (now s) at ⌝ }
     requires { ⌜ (getD (now starts) 18 0 ≤ 128) × (places .end ≤ 64) × LentFit (now s) (places .lengths) ⌝ }
-    ensures { λ r. ⌜ (r ≡ true → Agrees (now (s .entry)) at) ⌝ }
+    ensures { λ r. ⌜ (r ≡ true → Agrees (atEntry s) at) ⌝ }
 {
     let floats = input::read_floats(s, places, starts[1]);
     let numbers = input::read_numbers(s, places.numbers);
@@ -295,7 +295,7 @@ fn case_agrees(s: &[u8], at: usize, starts: &[usize; 19], places: Places) -> boo
 
 // The case that begins at `at`.
 pub fn replay_case(s: &[u8], at: usize) -> Replayed
-    ensures { λ r. ⌜ ToldOf (now (s .entry)) at r ⌝ }
+    ensures { λ r. ⌜ ToldOf (atEntry s) at r ⌝ }
 {
     let group = byte_at(s, at);
     let starts = input::starts_at(s, at);

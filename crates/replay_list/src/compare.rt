@@ -3,6 +3,7 @@
 ghost use mathlib.Core.Path.{_≡_};
 ghost use mathlib.Core.Bool.{true};
 ghost use lib.Ieee.{binary64, toBits, nan};
+ghost use Rattle.model.specs.Lent.{atEntry};
 ghost use Rattle.replay_list.specs.File.{expectedNumber, expectedBits, expectedByte, NumbersHold, FloatsHold, BytesHold, IndexHolds};
 use crate::file::byte_at;
 use crate::file::long_at;
@@ -31,7 +32,7 @@ fn has_bits(x: f64, bits: u64) -> bool
 }
 
 fn expected_number(s: &[u8], at: usize, n: usize, i: usize) -> u32
-    ensures { λ r. ⌜ r ≡ expectedNumber (now (s .entry)) at n i ⌝ }
+    ensures { λ r. ⌜ r ≡ expectedNumber (atEntry s) at n i ⌝ }
 {
     if i < n {
         short_at(s, past(at, i, 4))
@@ -41,7 +42,7 @@ fn expected_number(s: &[u8], at: usize, n: usize, i: usize) -> u32
 }
 
 fn expected_bits(s: &[u8], at: usize, n: usize, i: usize) -> u64
-    ensures { λ r. ⌜ r ≡ expectedBits (now (s .entry)) at n i ⌝ }
+    ensures { λ r. ⌜ r ≡ expectedBits (atEntry s) at n i ⌝ }
 {
     if i < n {
         long_at(s, past(at, i, 8))
@@ -51,7 +52,7 @@ fn expected_bits(s: &[u8], at: usize, n: usize, i: usize) -> u64
 }
 
 fn expected_byte(s: &[u8], at: usize, n: usize, i: usize) -> u8
-    ensures { λ r. ⌜ r ≡ expectedByte (now (s .entry)) at n i ⌝ }
+    ensures { λ r. ⌜ r ≡ expectedByte (atEntry s) at n i ⌝ }
 {
     if i < n {
         byte_at(s, past(at, i, 1))
@@ -61,7 +62,7 @@ fn expected_byte(s: &[u8], at: usize, n: usize, i: usize) -> u8
 }
 
 pub fn numbers_agree(s: &[u8], at: usize, n: usize, found: &[u32; 128]) -> bool
-    ensures { λ r. ⌜ (r ≡ true → NumbersHold (now (s .entry)) at n 128 (now (found .entry))) ⌝ }
+    ensures { λ r. ⌜ (r ≡ true → NumbersHold (atEntry s) at n 128 (atEntry found)) ⌝ }
 {
     let mut i: usize = 0;
     while i < 128 {
@@ -74,7 +75,7 @@ pub fn numbers_agree(s: &[u8], at: usize, n: usize, found: &[u32; 128]) -> bool
 }
 
 pub fn floats_agree(s: &[u8], at: usize, n: usize, found: &[f64; 128]) -> bool
-    ensures { λ r. ⌜ (r ≡ true → FloatsHold (now (s .entry)) at n 128 (now (found .entry))) ⌝ }
+    ensures { λ r. ⌜ (r ≡ true → FloatsHold (atEntry s) at n 128 (atEntry found)) ⌝ }
 {
     let mut i: usize = 0;
     while i < 128 {
@@ -87,7 +88,7 @@ pub fn floats_agree(s: &[u8], at: usize, n: usize, found: &[f64; 128]) -> bool
 }
 
 pub fn bytes_agree(s: &[u8], at: usize, n: usize, found: &[u8; 128]) -> bool
-    ensures { λ r. ⌜ (r ≡ true → BytesHold (now (s .entry)) at n 128 (now (found .entry))) ⌝ }
+    ensures { λ r. ⌜ (r ≡ true → BytesHold (atEntry s) at n 128 (atEntry found)) ⌝ }
 {
     let mut i: usize = 0;
     while i < 128 {
@@ -106,7 +107,7 @@ fn wide(x: usize) -> u64
 }
 
 pub fn index_agrees(s: &[u8], at: usize, n: usize, found: &[usize; 160]) -> bool
-    ensures { λ r. ⌜ (r ≡ true → IndexHolds (now (s .entry)) at n 160 (now (found .entry))) ⌝ }
+    ensures { λ r. ⌜ (r ≡ true → IndexHolds (atEntry s) at n 160 (atEntry found)) ⌝ }
 {
     let mut i: usize = 0;
     while i < 160 {

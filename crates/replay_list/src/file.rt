@@ -3,6 +3,7 @@ ghost use mathlib.Core.Path.{_≡_};
 ghost use Prim.Native.Nat.{_^_, _<_};
 ghost use lib.ListN.{getD};
 ghost use lib.Ieee.{binary64, ofBits};
+ghost use Rattle.model.specs.Lent.{atEntry};
 ghost use Rattle.replay_list.specs.File.{placeAfter, shortAt, longAt};
 
 // A place that no file reaches: where a length in the file is too large, places stop here.
@@ -39,14 +40,14 @@ fn wider(short: u32) -> u64
 }
 
 pub fn byte_at(s: &[u8], at: usize) -> u8
-    ensures { λ r. ⌜ r ≡ getD (now (s .entry)) at 0 ⌝ }
+    ensures { λ r. ⌜ r ≡ getD (atEntry s) at 0 ⌝ }
 {
     if at < s.len() { s[at] } else { 0 }
 }
 
 // A number of four bytes.
 pub fn short_at(s: &[u8], at: usize) -> u32
-    ensures { λ r. ⌜ r ≡ shortAt (now (s .entry)) at ⌝ }
+    ensures { λ r. ⌜ r ≡ shortAt (atEntry s) at ⌝ }
 {
     if s.len() < 4 {
         return 0;
@@ -60,7 +61,7 @@ pub fn short_at(s: &[u8], at: usize) -> u32
 
 // A number of eight bytes.
 pub fn long_at(s: &[u8], at: usize) -> u64
-    ensures { λ r. ⌜ r ≡ longAt (now (s .entry)) at ⌝ }
+    ensures { λ r. ⌜ r ≡ longAt (atEntry s) at ⌝ }
 {
     if s.len() < 8 {
         return 0;
@@ -83,7 +84,7 @@ pub fn float_of(bits: u64) -> f64
 }
 
 pub fn float_at(s: &[u8], at: usize) -> f64
-    ensures { λ r. ⌜ r ≡ ofBits binary64 (longAt (now (s .entry)) at) ⌝ }
+    ensures { λ r. ⌜ r ≡ ofBits binary64 (longAt (atEntry s) at) ⌝ }
 {
     float_of(long_at(s, at))
 }

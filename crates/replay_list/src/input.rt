@@ -1,6 +1,7 @@
 // Decodes a case's problem. `at` is where the case begins.
 ghost use mathlib.Core.Path.{_≡_};
 ghost use mathlib.Core.Bool.{cond};
+ghost use Rattle.model.specs.Lent.{atEntry};
 ghost use Rattle.replay_list.specs.File.{itemAt};
 ghost use Rattle.replay_list.specs.Format.{each, part, countAt, boundAt, jobAt, lengthAt, floatsOf, startsAt, placesAt, floatNumber, recordAt, recordOrNone, recordsFrom};
 use crate::file::byte_at;
@@ -43,26 +44,26 @@ pub fn size_of(n: u32) -> usize
 }
 
 pub fn count_at(s: &[u8], at: usize, i: usize) -> usize
-    ensures { λ r. ⌜ r ≡ countAt (now (s .entry)) at i ⌝ }
+    ensures { λ r. ⌜ r ≡ countAt (atEntry s) at i ⌝ }
 {
     whole(long_at(s, past(past(at, 1, 1), i, 8)))
 }
 
 fn bound_at(s: &[u8], at: usize, i: usize) -> f64
-    ensures { λ r. ⌜ r ≡ boundAt (now (s .entry)) at i ⌝ }
+    ensures { λ r. ⌜ r ≡ boundAt (atEntry s) at i ⌝ }
 {
     float_at(s, past(past(at, 33, 1), i, 8))
 }
 
 // A length of the case: of the grid at 0, of table k at k + 1, of the pool at 17, of the records at 18.
 pub fn length_at(s: &[u8], at: usize, k: usize) -> usize
-    ensures { λ r. ⌜ r ≡ lengthAt (now (s .entry)) at k ⌝ }
+    ensures { λ r. ⌜ r ≡ lengthAt (atEntry s) at k ⌝ }
 {
     size_of(short_at(s, past(past(at, 97, 1), k, 4)))
 }
 
 pub fn job_at(s: &[u8], at: usize) -> Job
-    ensures { λ r. ⌜ r ≡ jobAt (now (s .entry)) at ⌝ }
+    ensures { λ r. ⌜ r ≡ jobAt (atEntry s) at ⌝ }
 {
     let boundary = Boundary {
         a0: bound_at(s, at, 0),
@@ -94,7 +95,7 @@ pub fn job_at(s: &[u8], at: usize) -> Job
 
 // How many floats list k has: tables 0 and 1 have none.
 fn floats_of(s: &[u8], at: usize, k: usize) -> usize
-    ensures { λ r. ⌜ r ≡ floatsOf (now (s .entry)) at k ⌝ }
+    ensures { λ r. ⌜ r ≡ floatsOf (atEntry s) at k ⌝ }
 {
     if k == 1 {
         return 0;
@@ -107,7 +108,7 @@ fn floats_of(s: &[u8], at: usize, k: usize) -> usize
 
 // Where each list of floats begins among all floats of the case, and where the last ends.
 pub fn starts_at(s: &[u8], at: usize) -> [usize; 19]
-    ensures { λ r. ⌜ r ≡ startsAt (now (s .entry)) at ⌝ }
+    ensures { λ r. ⌜ r ≡ startsAt (atEntry s) at ⌝ }
 {
     let mut starts = [0usize; 19];
     let mut k: usize = 0;
@@ -121,7 +122,7 @@ pub fn starts_at(s: &[u8], at: usize) -> [usize; 19]
 
 pub fn places_at(s: &[u8], at: usize, starts: &[usize; 19]) -> Places
     requires { ⌜ now starts ≡ startsAt (now s) at ⌝ }
-    ensures { λ r. ⌜ r ≡ placesAt (now (s .entry)) at ⌝ }
+    ensures { λ r. ⌜ r ≡ placesAt (atEntry s) at ⌝ }
 {
     let grid = past(at, 173, 1);
     let numbers = past(grid, starts[1], 8);
@@ -153,7 +154,7 @@ fn either(first: bool, a: usize, b: usize) -> usize
 
 // The floats in the file's order: the grid, and past the numbers of tables 0 and 1 all others.
 pub fn read_floats(s: &[u8], places: Places, first: usize) -> [f64; 128]
-    ensures { λ r. ⌜ r ≡ each (floatNumber (now (s .entry)) (places .grid) (places .tables) first) 128 ⌝ }
+    ensures { λ r. ⌜ r ≡ each (floatNumber (atEntry s) (places .grid) (places .tables) first) 128 ⌝ }
 {
     let grid = places.grid;
     let tables = places.tables;
@@ -168,7 +169,7 @@ pub fn read_floats(s: &[u8], places: Places, first: usize) -> [f64; 128]
 }
 
 pub fn read_numbers(s: &[u8], at: usize) -> [u32; 64]
-    ensures { λ r. ⌜ r ≡ each (itemAt (now (s .entry)) at) 64 ⌝ }
+    ensures { λ r. ⌜ r ≡ each (itemAt (atEntry s) at) 64 ⌝ }
 {
     let mut out = [0u32; 64];
     let mut i: usize = 0;
@@ -186,7 +187,7 @@ fn wide(byte: u8) -> u64
 }
 
 fn record_at(s: &[u8], at: usize) -> ObjectiveRecord
-    ensures { λ r. ⌜ r ≡ recordAt (now (s .entry)) at ⌝ }
+    ensures { λ r. ⌜ r ≡ recordAt (atEntry s) at ⌝ }
 {
     ObjectiveRecord {
         kind: wide(byte_at(s, at)),
@@ -200,7 +201,7 @@ fn record_at(s: &[u8], at: usize) -> ObjectiveRecord
 
 // Record i of the n at a place, and past these Time of weight 0, which nothing looks at.
 fn record_or_none(s: &[u8], at: usize, n: usize, i: usize) -> ObjectiveRecord
-    ensures { λ r. ⌜ r ≡ recordOrNone (now (s .entry)) at n i ⌝ }
+    ensures { λ r. ⌜ r ≡ recordOrNone (atEntry s) at n i ⌝ }
 {
     if n <= i {
         return ObjectiveRecord {
@@ -216,7 +217,7 @@ fn record_or_none(s: &[u8], at: usize, n: usize, i: usize) -> ObjectiveRecord
 }
 
 pub fn records_at(s: &[u8], at: usize, n: usize) -> ObjectiveRecords
-    ensures { λ r. ⌜ r ≡ recordsFrom (now (s .entry)) at n ⌝ }
+    ensures { λ r. ⌜ r ≡ recordsFrom (atEntry s) at n ⌝ }
 {
     let mut items = [record_or_none(s, at, 0, 0); 16];
     let mut i: usize = 0;
@@ -229,7 +230,7 @@ pub fn records_at(s: &[u8], at: usize, n: usize) -> ObjectiveRecords
 
 // Elements from a place to another, and none where the second is past the end.
 pub fn floats_part(s: &[f64], from: usize, to: usize) -> &[f64]
-    ensures { λ r. ⌜ now r ≡ part (now (s .entry)) from to ⌝ }
+    ensures { λ r. ⌜ now r ≡ part (atEntry s) from to ⌝ }
 {
     if s.len() < to {
         return &s[..0];
@@ -241,7 +242,7 @@ pub fn floats_part(s: &[f64], from: usize, to: usize) -> &[f64]
 }
 
 pub fn numbers_part(s: &[u32], from: usize, to: usize) -> &[u32]
-    ensures { λ r. ⌜ now r ≡ part (now (s .entry)) from to ⌝ }
+    ensures { λ r. ⌜ now r ≡ part (atEntry s) from to ⌝ }
 {
     if s.len() < to {
         return &s[..0];

@@ -11,8 +11,9 @@ ghost use Rattle.model.specs.Verdicts.{refuse};
 ghost use Rattle.model.specs.Counts.{upper, _plus_, standardCounts, rootCounts, objectiveCounts, objectivesCounts, counts};
 ghost use Rattle.model.specs.Answers.{told, sizing, roomRefusal};
 ghost use lib.Ieee.{Float};
+ghost use Rattle.model.specs.Lent.{atEntry, lent};
 ghost use Rattle.checks.specs.Fitting.{Fitting};
-ghost use Rattle.sizing.specs.Measures.{measures, measuresOf, Bounded, Few};
+ghost use Rattle.sizing.specs.Measures.{measures, measuresOf, accMost, jerkMost, standardMost, rootMost, objectiveMost, objectivesMost, Bounded, Few};
 use checks::first_of;
 use checks::refuse_if;
 use model::Answer;
@@ -54,19 +55,19 @@ fn upper_of(x: f64) -> usize
 }
 
 // 1 for a positive end with a finite maximum.
-fn end_upper(count: usize, b: Bounds) -> usize
-    ensures { λ r. ⌜ r ≡ flag count * upper (b .maximum) ⌝ }
+fn end_upper(count: usize, bounds: Bounds) -> usize
+    ensures { λ r. ⌜ r ≡ flag count * upper (bounds .maximum) ⌝ }
 {
     if count == 0 {
         return 0;
     }
-    upper_of(b.maximum)
+    upper_of(bounds.maximum)
 }
 
 // The stations from `from` to below `to`, in one pass.
 fn sums_inside(amax: &[f64], acc_rows: &[u32], jerk_rows: &[u32], from: usize, to: usize) -> Inside
     requires { ⌜ (from ≤ to) × (to ≤ length (now amax)) × (to ≤ length (now «acc_rows»)) × (to ≤ length (now «jerk_rows»)) × (to ≤ 4097) ⌝ }
-    ensures { λ r. ⌜ (r .uppers ≡ sumOver (λ k. upper (at (now (amax .entry)) k)) from (to - from)) × (r .acc ≡ sumOver (λ k. getD (now («acc_rows» .entry)) k 0) from (to - from)) × (r .jerk ≡ sumOver (λ k. getD (now («jerk_rows» .entry)) k 0) from (to - from)) × (r .uppers ≤ 4097) × (r .acc ≤ 17596481011712) × (r .jerk ≤ 17596481011712) ⌝ }
+    ensures { λ r. ⌜ (r .uppers ≡ sumOver (λ k. upper (at (atEntry amax) k)) from (to - from)) × (r .acc ≡ sumOver (λ k. getD (atEntry «acc_rows») k 0) from (to - from)) × (r .jerk ≡ sumOver (λ k. getD (atEntry «jerk_rows») k 0) from (to - from)) × (r .uppers ≤ 4097) × (r .acc ≤ accMost) × (r .jerk ≤ accMost) ⌝ }
 {
     let mut uppers: usize = 0;
     let mut acc: usize = 0;
@@ -83,8 +84,8 @@ fn sums_inside(amax: &[f64], acc_rows: &[u32], jerk_rows: &[u32], from: usize, t
 
 // The jerk rows of the moving intervals: each station between the ends counts twice.
 fn jerk_inside(jerk_rows: &[u32], first: usize, last: usize, between: usize) -> usize
-    requires { ⌜ (first < length (now «jerk_rows»)) × (last < length (now «jerk_rows»)) × (between ≤ 17596481011712) ⌝ }
-    ensures { λ r. ⌜ (r ≡ getD (now («jerk_rows» .entry)) first 0 + between + between + getD (now («jerk_rows» .entry)) last 0) × (r ≤ 35201551958016) ⌝ }
+    requires { ⌜ (first < length (now «jerk_rows»)) × (last < length (now «jerk_rows»)) × (between ≤ accMost) ⌝ }
+    ensures { λ r. ⌜ (r ≡ getD (atEntry «jerk_rows») first 0 + between + between + getD (atEntry «jerk_rows») last 0) × (r ≤ jerkMost) ⌝ }
 {
     let a = jerk_rows[first] as usize;
     let b = jerk_rows[last] as usize;
@@ -102,7 +103,7 @@ fn measure(
     jerk_rows: &[u32],
 ) -> Measures
     requires { ⌜ (3 ≤ length (now grid)) × (length (now grid) ≤ 4097) × (ends .n0 + ends .n1 + 1 < length (now grid)) × (d ≤ 32) × (length (now amax) ≡ length (now grid)) × (length (now «acc_rows») ≡ length (now grid)) × (length (now «jerk_rows») ≡ length (now grid)) ⌝ }
-    ensures { λ r. ⌜ (r ≡ measures (record { grid = now (grid .entry); N0 = ends .n0; N1 = ends .n1 }) d (record { start = start; end = end; amax = now (amax .entry) }) (now («acc_rows» .entry)) (now («jerk_rows» .entry))) × Bounded r ⌝ }
+    ensures { λ r. ⌜ (r ≡ measures (record { grid = atEntry grid; N0 = ends .n0; N1 = ends .n1 }) d (record { start = start; end = end; amax = atEntry amax }) (atEntry «acc_rows») (atEntry «jerk_rows»)) × Bounded r ⌝ }
 {
     let n0 = ends.n0;
     let n1 = ends.n1;
@@ -127,7 +128,7 @@ fn measure(
 // Before the objectives.
 fn standard_counts(s: Measures) -> FourCounts
     requires { ⌜ Bounded s ⌝ }
-    ensures { λ r. ⌜ ((p : Problem) → s ≡ measuresOf p → r ≡ standardCounts p) × Few 200000000000000 r ⌝ }
+    ensures { λ r. ⌜ ((p : Problem) → s ≡ measuresOf p → r ≡ standardCounts p) × Few standardMost r ⌝ }
 {
     FourCounts {
         entries: 3 + 3 * s.ends + 10 * s.m + s.uppers + 2 * s.acc + 3 * s.jerk,
@@ -140,7 +141,7 @@ fn standard_counts(s: Measures) -> FourCounts
 // The root stage, if there is one.
 fn root_counts(s: Measures, root: bool) -> FourCounts
     requires { ⌜ Bounded s ⌝ }
-    ensures { λ r. ⌜ ((p : Problem) → s ≡ measuresOf p → root ≡ hasRoot p → r ≡ rootCounts p) × Few 20000 r ⌝ }
+    ensures { λ r. ⌜ ((p : Problem) → s ≡ measuresOf p → root ≡ hasRoot p → r ≡ rootCounts p) × Few rootMost r ⌝ }
 {
     if root {
         FourCounts {
@@ -162,7 +163,7 @@ fn root_counts(s: Measures, root: bool) -> FourCounts
 // What a ThermalEnergy adds.
 fn thermal_counts(s: Measures) -> FourCounts
     requires { ⌜ Bounded s ⌝ }
-    ensures { λ r. ⌜ (r ≡ record { entries = (4 + 2 * s .d) * (s .ends + s .l); rows = (2 + s .d) * (s .ends + s .l); cones = s .ends + s .l; columns = s .ends + s .l }) × Few 2000000 r ⌝ }
+    ensures { λ r. ⌜ (r ≡ record { entries = (4 + 2 * s .d) * (s .ends + s .l); rows = (2 + s .d) * (s .ends + s .l); cones = s .ends + s .l; columns = s .ends + s .l }) × Few objectiveMost r ⌝ }
 {
     let cones = s.ends + s.l;
     FourCounts {
@@ -176,7 +177,7 @@ fn thermal_counts(s: Measures) -> FourCounts
 // What a TotalVariationTorque adds.
 fn torque_counts(s: Measures) -> FourCounts
     requires { ⌜ Bounded s ⌝ }
-    ensures { λ r. ⌜ (r ≡ record { entries = 6 * s .d * s .ends + 10 * s .d * s .m; rows = 2 * s .d * (s .ends + s .m); cones = 1; columns = s .d * (s .ends + s .m) }) × Few 2000000 r ⌝ }
+    ensures { λ r. ⌜ (r ≡ record { entries = 6 * s .d * s .ends + 10 * s .d * s .m; rows = 2 * s .d * (s .ends + s .m); cones = 1; columns = s .d * (s .ends + s .m) }) × Few objectiveMost r ⌝ }
 {
     let columns = s.d * (s.ends + s.m);
     let rows = 2 * s.d * (s.ends + s.m);
@@ -193,7 +194,7 @@ fn torque_counts(s: Measures) -> FourCounts
 // What an objective adds.
 fn objective_counts(s: Measures, o: Objective) -> FourCounts
     requires { ⌜ Bounded s ⌝ }
-    ensures { λ r. ⌜ ((p : Problem) → s ≡ measuresOf p → r ≡ objectiveCounts p o) × Few 2000000 r ⌝ }
+    ensures { λ r. ⌜ ((p : Problem) → s ≡ measuresOf p → r ≡ objectiveCounts p o) × Few objectiveMost r ⌝ }
 {
     match o {
         Objective::Time(_) => FourCounts {
@@ -228,7 +229,7 @@ fn objective_counts(s: Measures, o: Objective) -> FourCounts
 }
 
 fn sum(a: FourCounts, b: FourCounts) -> FourCounts
-    requires { ⌜ Few 400000000000000 a × Few 400000000000000 b ⌝ }
+    requires { ⌜ Few (2 * standardMost) a × Few (2 * standardMost) b ⌝ }
     ensures { λ r. ⌜ r ≡ (a plus b) ⌝ }
 {
     FourCounts {
@@ -242,7 +243,7 @@ fn sum(a: FourCounts, b: FourCounts) -> FourCounts
 // What the first count objectives add.
 fn objectives_counts(s: Measures, objectives: [Objective; 16], count: usize) -> FourCounts
     requires { ⌜ (count ≤ 16) × Bounded s ⌝ }
-    ensures { λ r. ⌜ ((p : Problem) → s ≡ measuresOf p → r ≡ objectivesCounts p (take count objectives)) × Few 32000000 r ⌝ }
+    ensures { λ r. ⌜ ((p : Problem) → s ≡ measuresOf p → r ≡ objectivesCounts p (take count objectives)) × Few objectivesMost r ⌝ }
 {
     let mut t = FourCounts {
         entries: 0,
@@ -282,7 +283,7 @@ pub fn count(
     amax: &[f64],
 ) -> FourCounts
     requires { ⌜ Fitting (record { grid = now grid; N0 = job .ends .n0; N1 = job .ends .n1 }) (job .d) (job .count) (now «acc_rows») (now «jerk_rows») (now amax) ⌝ }
-    ensures { λ r. ⌜ ((t3 t4 t5 t6 t7 t8 t9 t10 t11 t12 t13 t14 t15 pool : List Float) → r ≡ counts (problem job objectives (now (grid .entry)) (now («acc_rows» .entry)) (now («jerk_rows» .entry)) (now (amax .entry)) t3 t4 t5 t6 t7 t8 t9 t10 t11 t12 t13 t14 t15 pool)) ⌝ }
+    ensures { λ r. ⌜ ((t3 t4 t5 t6 t7 t8 t9 t10 t11 t12 t13 t14 t15 pool : List Float) → r ≡ counts (problem job objectives (atEntry grid) (atEntry «acc_rows») (atEntry «jerk_rows») (atEntry amax) t3 t4 t5 t6 t7 t8 t9 t10 t11 t12 t13 t14 t15 pool)) ⌝ }
 {
     let ends = job.ends;
     let start = job.start;
@@ -314,7 +315,7 @@ pub fn size(
     end_roots: &[f64],
     pool: &[f64],
 ) -> Answer
-    ensures { λ r. ⌜ told r ≡ sizing (problem job objectives (now (grid .entry)) (now («acc_rows» .entry)) (now («jerk_rows» .entry)) (now (amax .entry)) (now («acc_a» .entry)) (now («acc_b» .entry)) (now («acc_max» .entry)) (now («jerk_a» .entry)) (now («jerk_b» .entry)) (now («jerk_c» .entry)) (now («jerk_max» .entry)) (now (thermal .entry)) (now («torque_a» .entry)) (now («torque_b» .entry)) (now («torque_g» .entry)) (now («start_roots» .entry)) (now («end_roots» .entry)) (now (pool .entry))) ⌝ }
+    ensures { λ r. ⌜ told r ≡ sizing (lent job objectives grid «acc_rows» «jerk_rows» amax «acc_a» «acc_b» «acc_max» «jerk_a» «jerk_b» «jerk_c» «jerk_max» thermal «torque_a» «torque_b» «torque_g» «start_roots» «end_roots» pool) ⌝ }
 {
     let v = checks::check(
         job,

@@ -2,10 +2,12 @@
 
 ghost use Prim.Native.Nat.{_*_, _+_, _<_, _^_, _≤_, ℕ};
 ghost use Rattle.acc_jerk.specs.Tables.{AccSized, Few, JerkSized, accOf, jerkOf};
+ghost use Rattle.buffers.specs.Bounds.{standardRoom, rootRoom, timeRoom, thermalRoom, torqueRoom};
 ghost use Rattle.buffers.specs.Inputs.{Sized, path, torqueOf};
 ghost use Rattle.buffers.specs.Lent.{RoomAll, built, closed, fillsCost};
 ghost use Rattle.first_order.specs.Limits.{limits};
 ghost use Rattle.linear.specs.Charges.{Fits, abCost};
+ghost use Rattle.model.specs.Lent.{atEntry, atExit};
 ghost use Rattle.model.specs.Objectives.{thermalBlock, timeBlock, torqueBlock};
 ghost use Rattle.model.specs.Problem.{n, some, usesRoot};
 ghost use Rattle.model.specs.Program.{nothing};
@@ -22,53 +24,53 @@ ghost use mathlib.Core.Path.{_≡_};
 pub fn standard_rows(
     t: &mut model::Tally,
     rows: &mut [u32],
-    cols: &mut [u32],
-    vals: &mut [f64],
+    columns: &mut [u32],
+    values: &mut [f64],
     right: &mut [f64],
     kinds: &mut [u8],
-    dims: &mut [u32],
-    s: &[f64],
-    e: model::Ends,
+    dimensions: &mut [u32],
+    grid: &[f64],
+    ends: model::Ends,
     amax: &[f64],
-    counts: &[u32],
-    aa: &[f64],
-    ab: &[f64],
-    ah: &[f64],
-    turns: &[u32],
-    ja: &[f64],
-    jb: &[f64],
-    jc: &[f64],
-    jh: &[f64],
-    x: model::Boundary,
-    lo: model::Bounds,
-    hi: model::Bounds,
+    acc_rows: &[u32],
+    acc_a: &[f64],
+    acc_b: &[f64],
+    acc_max: &[f64],
+    jerk_rows: &[u32],
+    jerk_a: &[f64],
+    jerk_b: &[f64],
+    jerk_c: &[f64],
+    jerk_max: &[f64],
+    boundary: model::Boundary,
+    start: model::Bounds,
+    end: model::Bounds,
 )
-    requires { ⌜ RoomAll (now t) (773 * length (now s) + 10) × Sized (now s) e × (length (now amax) ≡ length (now s)) × AccSized (now s) (now counts) (now aa) (now ab) (now ah) × Few (now counts) × JerkSized (now s) (now turns) (now ja) (now jb) (now jc) (now jh) × Few (now turns) ⌝ }
-    ensures { λ _. ⌜ closed (now (t .entry)) rows cols vals right kinds dims (now (t .exit)) (standardCones (path (now (s .entry)) e) x (limits lo hi (now (amax .entry))) (accOf (now (counts .entry)) (now (aa .entry)) (now (ab .entry)) (now (ah .entry))) (jerkOf (now (turns .entry)) (now (ja .entry)) (now (jb .entry)) (now (jc .entry)) (now (jh .entry)))) (773 * length (now (s .entry)) + 10) ⌝ }
+    requires { ⌜ RoomAll (now t) (standardRoom (length (now grid))) × Sized (now grid) ends × (length (now amax) ≡ length (now grid)) × AccSized (now grid) (now «acc_rows») (now «acc_a») (now «acc_b») (now «acc_max») × Few (now «acc_rows») × JerkSized (now grid) (now «jerk_rows») (now «jerk_a») (now «jerk_b») (now «jerk_c») (now «jerk_max») × Few (now «jerk_rows») ⌝ }
+    ensures { λ _. ⌜ closed (atEntry t) rows columns values right kinds dimensions (atExit t) (standardCones (path (atEntry grid) ends) boundary (limits start end (atEntry amax)) (accOf (atEntry «acc_rows») (atEntry «acc_a») (atEntry «acc_b») (atEntry «acc_max»)) (jerkOf (atEntry «jerk_rows») (atEntry «jerk_a») (atEntry «jerk_b») (atEntry «jerk_c») (atEntry «jerk_max»))) (standardRoom (length (atEntry grid))) ⌝ }
 {
     *t = standard::clarabel_standard_constraint_topp3(
         *t,
         rows,
-        cols,
-        vals,
+        columns,
+        values,
         right,
         kinds,
-        dims,
-        s,
-        e,
+        dimensions,
+        grid,
+        ends,
         amax,
-        counts,
-        aa,
-        ab,
-        ah,
-        turns,
-        ja,
-        jb,
-        jc,
-        jh,
-        x,
-        lo,
-        hi,
+        acc_rows,
+        acc_a,
+        acc_b,
+        acc_max,
+        jerk_rows,
+        jerk_a,
+        jerk_b,
+        jerk_c,
+        jerk_max,
+        boundary,
+        start,
+        end,
     );
 }
 
@@ -76,54 +78,54 @@ pub fn standard_rows(
 pub fn standard_rows_by_value(
     t: model::Tally,
     rows: &mut [u32],
-    cols: &mut [u32],
-    vals: &mut [f64],
+    columns: &mut [u32],
+    values: &mut [f64],
     right: &mut [f64],
     kinds: &mut [u8],
-    dims: &mut [u32],
-    s: &[f64],
-    e: model::Ends,
+    dimensions: &mut [u32],
+    grid: &[f64],
+    ends: model::Ends,
     amax: &[f64],
-    counts: &[u32],
-    aa: &[f64],
-    ab: &[f64],
-    ah: &[f64],
-    turns: &[u32],
-    ja: &[f64],
-    jb: &[f64],
-    jc: &[f64],
-    jh: &[f64],
-    x: model::Boundary,
-    lo: model::Bounds,
-    hi: model::Bounds,
+    acc_rows: &[u32],
+    acc_a: &[f64],
+    acc_b: &[f64],
+    acc_max: &[f64],
+    jerk_rows: &[u32],
+    jerk_a: &[f64],
+    jerk_b: &[f64],
+    jerk_c: &[f64],
+    jerk_max: &[f64],
+    boundary: model::Boundary,
+    start: model::Bounds,
+    end: model::Bounds,
 ) -> model::Tally
-    requires { ⌜ RoomAll t (773 * length (now s) + 10) × Sized (now s) e × (length (now amax) ≡ length (now s)) × AccSized (now s) (now counts) (now aa) (now ab) (now ah) × Few (now counts) × JerkSized (now s) (now turns) (now ja) (now jb) (now jc) (now jh) × Few (now turns) ⌝ }
-    ensures { λ r. ⌜ closed t rows cols vals right kinds dims r (standardCones (path (now (s .entry)) e) x (limits lo hi (now (amax .entry))) (accOf (now (counts .entry)) (now (aa .entry)) (now (ab .entry)) (now (ah .entry))) (jerkOf (now (turns .entry)) (now (ja .entry)) (now (jb .entry)) (now (jc .entry)) (now (jh .entry)))) (773 * length (now (s .entry)) + 10) ⌝ }
+    requires { ⌜ RoomAll t (standardRoom (length (now grid))) × Sized (now grid) ends × (length (now amax) ≡ length (now grid)) × AccSized (now grid) (now «acc_rows») (now «acc_a») (now «acc_b») (now «acc_max») × Few (now «acc_rows») × JerkSized (now grid) (now «jerk_rows») (now «jerk_a») (now «jerk_b») (now «jerk_c») (now «jerk_max») × Few (now «jerk_rows») ⌝ }
+    ensures { λ r. ⌜ closed t rows columns values right kinds dimensions r (standardCones (path (atEntry grid) ends) boundary (limits start end (atEntry amax)) (accOf (atEntry «acc_rows») (atEntry «acc_a») (atEntry «acc_b») (atEntry «acc_max»)) (jerkOf (atEntry «jerk_rows») (atEntry «jerk_a») (atEntry «jerk_b») (atEntry «jerk_c») (atEntry «jerk_max»))) (standardRoom (length (atEntry grid))) ⌝ }
 {
     let mut u = t;
     standard_rows(
         &mut u,
         rows,
-        cols,
-        vals,
+        columns,
+        values,
         right,
         kinds,
-        dims,
-        s,
-        e,
+        dimensions,
+        grid,
+        ends,
         amax,
-        counts,
-        aa,
-        ab,
-        ah,
-        turns,
-        ja,
-        jb,
-        jc,
-        jh,
-        x,
-        lo,
-        hi,
+        acc_rows,
+        acc_a,
+        acc_b,
+        acc_max,
+        jerk_rows,
+        jerk_a,
+        jerk_b,
+        jerk_c,
+        jerk_max,
+        boundary,
+        start,
+        end,
     );
     u
 }
@@ -132,32 +134,32 @@ pub fn standard_rows_by_value(
 pub fn root_stage(
     t: &mut model::Tally,
     rows: &mut [u32],
-    cols: &mut [u32],
-    vals: &mut [f64],
+    columns: &mut [u32],
+    values: &mut [f64],
     right: &mut [f64],
     kinds: &mut [u8],
-    dims: &mut [u32],
+    dimensions: &mut [u32],
     cost: &mut [f64],
-    s: &[f64],
-    e: model::Ends,
-    os: [model::Objective; 16],
+    grid: &[f64],
+    ends: model::Ends,
+    objectives: [model::Objective; 16],
     count: usize,
 )
-    requires { ⌜ RoomAll (now t) (4 * length (now s) + 1) × Sized (now s) e × (count ≤ 16) ⌝ }
-    ensures { λ _. ⌜ built (now (t .entry)) rows cols vals right kinds dims cost (now (t .exit)) (cond (some usesRoot (take count os)) (rootStage (path (now (s .entry)) e)) nothing) (4 * length (now (s .entry)) + 1) ⌝ }
+    requires { ⌜ RoomAll (now t) (rootRoom (length (now grid))) × Sized (now grid) ends × (count ≤ 16) ⌝ }
+    ensures { λ _. ⌜ built (atEntry t) rows columns values right kinds dimensions cost (atExit t) (cond (some usesRoot (take count objectives)) (rootStage (path (atEntry grid) ends)) nothing) (rootRoom (length (atEntry grid))) ⌝ }
 {
     *t = sqrt_a::clarabel_sqrt_a_copp3(
         *t,
         rows,
-        cols,
-        vals,
+        columns,
+        values,
         right,
         kinds,
-        dims,
+        dimensions,
         cost,
-        s,
-        e,
-        os,
+        grid,
+        ends,
+        objectives,
         count,
     );
 }
@@ -166,33 +168,33 @@ pub fn root_stage(
 pub fn root_stage_by_value(
     t: model::Tally,
     rows: &mut [u32],
-    cols: &mut [u32],
-    vals: &mut [f64],
+    columns: &mut [u32],
+    values: &mut [f64],
     right: &mut [f64],
     kinds: &mut [u8],
-    dims: &mut [u32],
+    dimensions: &mut [u32],
     cost: &mut [f64],
-    s: &[f64],
-    e: model::Ends,
-    os: [model::Objective; 16],
+    grid: &[f64],
+    ends: model::Ends,
+    objectives: [model::Objective; 16],
     count: usize,
 ) -> model::Tally
-    requires { ⌜ RoomAll t (4 * length (now s) + 1) × Sized (now s) e × (count ≤ 16) ⌝ }
-    ensures { λ r. ⌜ built t rows cols vals right kinds dims cost r (cond (some usesRoot (take count os)) (rootStage (path (now (s .entry)) e)) nothing) (4 * length (now (s .entry)) + 1) ⌝ }
+    requires { ⌜ RoomAll t (rootRoom (length (now grid))) × Sized (now grid) ends × (count ≤ 16) ⌝ }
+    ensures { λ r. ⌜ built t rows columns values right kinds dimensions cost r (cond (some usesRoot (take count objectives)) (rootStage (path (atEntry grid) ends)) nothing) (rootRoom (length (atEntry grid))) ⌝ }
 {
     let mut u = t;
     root_stage(
         &mut u,
         rows,
-        cols,
-        vals,
+        columns,
+        values,
         right,
         kinds,
-        dims,
+        dimensions,
         cost,
-        s,
-        e,
-        os,
+        grid,
+        ends,
+        objectives,
         count,
     );
     u
@@ -202,37 +204,57 @@ pub fn root_stage_by_value(
 pub fn linear(
     t: &mut model::Tally,
     cost: &mut [f64],
-    s: &[f64],
-    e: model::Ends,
-    r0: &[f64],
-    r1: &[f64],
+    grid: &[f64],
+    ends: model::Ends,
+    start_roots: &[f64],
+    end_roots: &[f64],
     pool: &[f64],
-    os: [model::Objective; 16],
+    objectives: [model::Objective; 16],
     count: usize,
 )
-    requires { ⌜ ((now t) .columns + 2 * length (now s) ≤ 2 ^ 32) × Sized (now s) e × (count ≤ 16) × ((i : ℕ) → i < count → Fits (now s) e (now r0) (now r1) (now pool) (getD os i (Time nan))) ⌝ }
-    ensures { λ _. ⌜ fillsCost (now (t .entry)) cost (now (t .exit)) (abCost (now (s .entry)) e (now (r0 .entry)) (now (r1 .entry)) (now (pool .entry)) (take count os)) 0 (2 * (n (path (now (s .entry)) e) + 1)) ⌝ }
+    requires { ⌜ ((now t) .columns .at + 2 * length (now grid) ≤ 2 ^ 32) × Sized (now grid) ends × (count ≤ 16) × ((i : ℕ) → i < count → Fits (now grid) ends (now «start_roots») (now «end_roots») (now pool) (getD objectives i (Time nan))) ⌝ }
+    ensures { λ _. ⌜ fillsCost (atEntry t) cost (atExit t) (abCost (atEntry grid) ends (atEntry «start_roots») (atEntry «end_roots») (atEntry pool) (take count objectives)) 0 (2 * (n (path (atEntry grid) ends) + 1)) ⌝ }
 {
-    *t = linear::ab_costs(*t, cost, s, e, r0, r1, pool, os, count);
+    *t = linear::ab_costs(
+        *t,
+        cost,
+        grid,
+        ends,
+        start_roots,
+        end_roots,
+        pool,
+        objectives,
+        count,
+    );
 }
 
 // The same, with the tally by value.
 pub fn linear_by_value(
     t: model::Tally,
     cost: &mut [f64],
-    s: &[f64],
-    e: model::Ends,
-    r0: &[f64],
-    r1: &[f64],
+    grid: &[f64],
+    ends: model::Ends,
+    start_roots: &[f64],
+    end_roots: &[f64],
     pool: &[f64],
-    os: [model::Objective; 16],
+    objectives: [model::Objective; 16],
     count: usize,
 ) -> model::Tally
-    requires { ⌜ (t .columns + 2 * length (now s) ≤ 2 ^ 32) × Sized (now s) e × (count ≤ 16) × ((i : ℕ) → i < count → Fits (now s) e (now r0) (now r1) (now pool) (getD os i (Time nan))) ⌝ }
-    ensures { λ r. ⌜ fillsCost t cost r (abCost (now (s .entry)) e (now (r0 .entry)) (now (r1 .entry)) (now (pool .entry)) (take count os)) 0 (2 * (n (path (now (s .entry)) e) + 1)) ⌝ }
+    requires { ⌜ (t .columns .at + 2 * length (now grid) ≤ 2 ^ 32) × Sized (now grid) ends × (count ≤ 16) × ((i : ℕ) → i < count → Fits (now grid) ends (now «start_roots») (now «end_roots») (now pool) (getD objectives i (Time nan))) ⌝ }
+    ensures { λ r. ⌜ fillsCost t cost r (abCost (atEntry grid) ends (atEntry «start_roots») (atEntry «end_roots») (atEntry pool) (take count objectives)) 0 (2 * (n (path (atEntry grid) ends) + 1)) ⌝ }
 {
     let mut u = t;
-    linear(&mut u, cost, s, e, r0, r1, pool, os, count);
+    linear(
+        &mut u,
+        cost,
+        grid,
+        ends,
+        start_roots,
+        end_roots,
+        pool,
+        objectives,
+        count,
+    );
     u
 }
 
@@ -240,31 +262,31 @@ pub fn linear_by_value(
 pub fn time(
     t: &mut model::Tally,
     rows: &mut [u32],
-    cols: &mut [u32],
-    vals: &mut [f64],
+    columns: &mut [u32],
+    values: &mut [f64],
     right: &mut [f64],
     kinds: &mut [u8],
-    dims: &mut [u32],
+    dimensions: &mut [u32],
     cost: &mut [f64],
-    s: &[f64],
-    e: model::Ends,
-    w: f64,
+    grid: &[f64],
+    ends: model::Ends,
+    weight: f64,
 )
-    requires { ⌜ RoomAll (now t) (4 * length (now s) + 1) × Sized (now s) e ⌝ }
-    ensures { λ _. ⌜ built (now (t .entry)) rows cols vals right kinds dims cost (now (t .exit)) (timeBlock (path (now (s .entry)) e) w ((now (t .entry)) .columns)) (4 * length (now (s .entry)) + 1) ⌝ }
+    requires { ⌜ RoomAll (now t) (timeRoom (length (now grid))) × Sized (now grid) ends ⌝ }
+    ensures { λ _. ⌜ built (atEntry t) rows columns values right kinds dimensions cost (atExit t) (timeBlock (path (atEntry grid) ends) weight ((atEntry t) .columns .at)) (timeRoom (length (atEntry grid))) ⌝ }
 {
     *t = time::clarabel_objective_time_copp3(
         *t,
         rows,
-        cols,
-        vals,
+        columns,
+        values,
         right,
         kinds,
-        dims,
+        dimensions,
         cost,
-        s,
-        e,
-        w,
+        grid,
+        ends,
+        weight,
     );
 }
 
@@ -272,21 +294,33 @@ pub fn time(
 pub fn time_by_value(
     t: model::Tally,
     rows: &mut [u32],
-    cols: &mut [u32],
-    vals: &mut [f64],
+    columns: &mut [u32],
+    values: &mut [f64],
     right: &mut [f64],
     kinds: &mut [u8],
-    dims: &mut [u32],
+    dimensions: &mut [u32],
     cost: &mut [f64],
-    s: &[f64],
-    e: model::Ends,
-    w: f64,
+    grid: &[f64],
+    ends: model::Ends,
+    weight: f64,
 ) -> model::Tally
-    requires { ⌜ RoomAll t (4 * length (now s) + 1) × Sized (now s) e ⌝ }
-    ensures { λ r. ⌜ built t rows cols vals right kinds dims cost r (timeBlock (path (now (s .entry)) e) w (t .columns)) (4 * length (now (s .entry)) + 1) ⌝ }
+    requires { ⌜ RoomAll t (timeRoom (length (now grid))) × Sized (now grid) ends ⌝ }
+    ensures { λ r. ⌜ built t rows columns values right kinds dimensions cost r (timeBlock (path (atEntry grid) ends) weight (t .columns .at)) (timeRoom (length (atEntry grid))) ⌝ }
 {
     let mut u = t;
-    time(&mut u, rows, cols, vals, right, kinds, dims, cost, s, e, w);
+    time(
+        &mut u,
+        rows,
+        columns,
+        values,
+        right,
+        kinds,
+        dimensions,
+        cost,
+        grid,
+        ends,
+        weight,
+    );
     u
 }
 
@@ -294,43 +328,43 @@ pub fn time_by_value(
 pub fn thermal_energy(
     t: &mut model::Tally,
     rows: &mut [u32],
-    cols: &mut [u32],
-    vals: &mut [f64],
+    columns: &mut [u32],
+    values: &mut [f64],
     right: &mut [f64],
     kinds: &mut [u8],
-    dims: &mut [u32],
+    dimensions: &mut [u32],
     cost: &mut [f64],
-    s: &[f64],
-    e: model::Ends,
-    weights: &[f64],
-    ta: &[f64],
-    tb: &[f64],
-    tg: &[f64],
+    grid: &[f64],
+    ends: model::Ends,
+    thermal: &[f64],
+    torque_a: &[f64],
+    torque_b: &[f64],
+    torque_g: &[f64],
     scales: &[f64],
     d: usize,
-    w: f64,
+    weight: f64,
 )
-    requires { ⌜ RoomAll (now t) (34 * (length (now s) + 2)) × Given (now s) e (now ta) (now tb) (now tg) (now scales) d × (length (now weights) ≡ length (now s)) ⌝ }
-    ensures { λ _. ⌜ built (now (t .entry)) rows cols vals right kinds dims cost (now (t .exit)) (thermalBlock (path (now (s .entry)) e) (torqueOf d (now (ta .entry)) (now (tb .entry)) (now (tg .entry))) (now (weights .entry)) w (now (scales .entry)) ((now (t .entry)) .columns)) (34 * (length (now (s .entry)) + 2)) ⌝ }
+    requires { ⌜ RoomAll (now t) (thermalRoom (length (now grid))) × Given (now grid) ends (now «torque_a») (now «torque_b») (now «torque_g») (now scales) d × (length (now thermal) ≡ length (now grid)) ⌝ }
+    ensures { λ _. ⌜ built (atEntry t) rows columns values right kinds dimensions cost (atExit t) (thermalBlock (path (atEntry grid) ends) (torqueOf d (atEntry «torque_a») (atEntry «torque_b») (atEntry «torque_g»)) (atEntry thermal) weight (atEntry scales) ((atEntry t) .columns .at)) (thermalRoom (length (atEntry grid))) ⌝ }
 {
     *t = thermal_energy::clarabel_objective_thermal_energy_copp3(
         *t,
         rows,
-        cols,
-        vals,
+        columns,
+        values,
         right,
         kinds,
-        dims,
+        dimensions,
         cost,
-        s,
-        e,
-        weights,
-        ta,
-        tb,
-        tg,
+        grid,
+        ends,
+        thermal,
+        torque_a,
+        torque_b,
+        torque_g,
         scales,
         d,
-        w,
+        weight,
     );
 }
 
@@ -338,44 +372,44 @@ pub fn thermal_energy(
 pub fn thermal_energy_by_value(
     t: model::Tally,
     rows: &mut [u32],
-    cols: &mut [u32],
-    vals: &mut [f64],
+    columns: &mut [u32],
+    values: &mut [f64],
     right: &mut [f64],
     kinds: &mut [u8],
-    dims: &mut [u32],
+    dimensions: &mut [u32],
     cost: &mut [f64],
-    s: &[f64],
-    e: model::Ends,
-    weights: &[f64],
-    ta: &[f64],
-    tb: &[f64],
-    tg: &[f64],
+    grid: &[f64],
+    ends: model::Ends,
+    thermal: &[f64],
+    torque_a: &[f64],
+    torque_b: &[f64],
+    torque_g: &[f64],
     scales: &[f64],
     d: usize,
-    w: f64,
+    weight: f64,
 ) -> model::Tally
-    requires { ⌜ RoomAll t (34 * (length (now s) + 2)) × Given (now s) e (now ta) (now tb) (now tg) (now scales) d × (length (now weights) ≡ length (now s)) ⌝ }
-    ensures { λ r. ⌜ built t rows cols vals right kinds dims cost r (thermalBlock (path (now (s .entry)) e) (torqueOf d (now (ta .entry)) (now (tb .entry)) (now (tg .entry))) (now (weights .entry)) w (now (scales .entry)) (t .columns)) (34 * (length (now (s .entry)) + 2)) ⌝ }
+    requires { ⌜ RoomAll t (thermalRoom (length (now grid))) × Given (now grid) ends (now «torque_a») (now «torque_b») (now «torque_g») (now scales) d × (length (now thermal) ≡ length (now grid)) ⌝ }
+    ensures { λ r. ⌜ built t rows columns values right kinds dimensions cost r (thermalBlock (path (atEntry grid) ends) (torqueOf d (atEntry «torque_a») (atEntry «torque_b») (atEntry «torque_g»)) (atEntry thermal) weight (atEntry scales) (t .columns .at)) (thermalRoom (length (atEntry grid))) ⌝ }
 {
     let mut u = t;
     thermal_energy(
         &mut u,
         rows,
-        cols,
-        vals,
+        columns,
+        values,
         right,
         kinds,
-        dims,
+        dimensions,
         cost,
-        s,
-        e,
-        weights,
-        ta,
-        tb,
-        tg,
+        grid,
+        ends,
+        thermal,
+        torque_a,
+        torque_b,
+        torque_g,
         scales,
         d,
-        w,
+        weight,
     );
     u
 }
@@ -384,41 +418,41 @@ pub fn thermal_energy_by_value(
 pub fn total_variation_torque(
     t: &mut model::Tally,
     rows: &mut [u32],
-    cols: &mut [u32],
-    vals: &mut [f64],
+    columns: &mut [u32],
+    values: &mut [f64],
     right: &mut [f64],
     kinds: &mut [u8],
-    dims: &mut [u32],
+    dimensions: &mut [u32],
     cost: &mut [f64],
-    s: &[f64],
-    e: model::Ends,
-    ta: &[f64],
-    tb: &[f64],
-    tg: &[f64],
+    grid: &[f64],
+    ends: model::Ends,
+    torque_a: &[f64],
+    torque_b: &[f64],
+    torque_g: &[f64],
     scales: &[f64],
     d: usize,
-    w: f64,
+    weight: f64,
 )
-    requires { ⌜ RoomAll (now t) (64 * (length (now s) + 2)) × Given (now s) e (now ta) (now tb) (now tg) (now scales) d ⌝ }
-    ensures { λ _. ⌜ built (now (t .entry)) rows cols vals right kinds dims cost (now (t .exit)) (torqueBlock (path (now (s .entry)) e) (torqueOf d (now (ta .entry)) (now (tb .entry)) (now (tg .entry))) w (now (scales .entry)) ((now (t .entry)) .columns)) (64 * (length (now (s .entry)) + 2)) ⌝ }
+    requires { ⌜ RoomAll (now t) (torqueRoom (length (now grid))) × Given (now grid) ends (now «torque_a») (now «torque_b») (now «torque_g») (now scales) d ⌝ }
+    ensures { λ _. ⌜ built (atEntry t) rows columns values right kinds dimensions cost (atExit t) (torqueBlock (path (atEntry grid) ends) (torqueOf d (atEntry «torque_a») (atEntry «torque_b») (atEntry «torque_g»)) weight (atEntry scales) ((atEntry t) .columns .at)) (torqueRoom (length (atEntry grid))) ⌝ }
 {
     *t = tv_torque::clarabel_objective_tv_torque_copp3(
         *t,
         rows,
-        cols,
-        vals,
+        columns,
+        values,
         right,
         kinds,
-        dims,
+        dimensions,
         cost,
-        s,
-        e,
-        ta,
-        tb,
-        tg,
+        grid,
+        ends,
+        torque_a,
+        torque_b,
+        torque_g,
         scales,
         d,
-        w,
+        weight,
     );
 }
 
@@ -426,42 +460,42 @@ pub fn total_variation_torque(
 pub fn total_variation_torque_by_value(
     t: model::Tally,
     rows: &mut [u32],
-    cols: &mut [u32],
-    vals: &mut [f64],
+    columns: &mut [u32],
+    values: &mut [f64],
     right: &mut [f64],
     kinds: &mut [u8],
-    dims: &mut [u32],
+    dimensions: &mut [u32],
     cost: &mut [f64],
-    s: &[f64],
-    e: model::Ends,
-    ta: &[f64],
-    tb: &[f64],
-    tg: &[f64],
+    grid: &[f64],
+    ends: model::Ends,
+    torque_a: &[f64],
+    torque_b: &[f64],
+    torque_g: &[f64],
     scales: &[f64],
     d: usize,
-    w: f64,
+    weight: f64,
 ) -> model::Tally
-    requires { ⌜ RoomAll t (64 * (length (now s) + 2)) × Given (now s) e (now ta) (now tb) (now tg) (now scales) d ⌝ }
-    ensures { λ r. ⌜ built t rows cols vals right kinds dims cost r (torqueBlock (path (now (s .entry)) e) (torqueOf d (now (ta .entry)) (now (tb .entry)) (now (tg .entry))) w (now (scales .entry)) (t .columns)) (64 * (length (now (s .entry)) + 2)) ⌝ }
+    requires { ⌜ RoomAll t (torqueRoom (length (now grid))) × Given (now grid) ends (now «torque_a») (now «torque_b») (now «torque_g») (now scales) d ⌝ }
+    ensures { λ r. ⌜ built t rows columns values right kinds dimensions cost r (torqueBlock (path (atEntry grid) ends) (torqueOf d (atEntry «torque_a») (atEntry «torque_b») (atEntry «torque_g»)) weight (atEntry scales) (t .columns .at)) (torqueRoom (length (atEntry grid))) ⌝ }
 {
     let mut u = t;
     total_variation_torque(
         &mut u,
         rows,
-        cols,
-        vals,
+        columns,
+        values,
         right,
         kinds,
-        dims,
+        dimensions,
         cost,
-        s,
-        e,
-        ta,
-        tb,
-        tg,
+        grid,
+        ends,
+        torque_a,
+        torque_b,
+        torque_g,
         scales,
         d,
-        w,
+        weight,
     );
     u
 }

@@ -1,18 +1,14 @@
 // The standard rows, in two cones.
 
 ghost use mathlib.Core.Path.{_≡_};
-ghost use mathlib.Core.List.{List, [], _∷_, _++_};
-ghost use Prim.Native.Nat.{ℕ, _+_, _-_, _*_, _^_, _<_, _≤_};
-ghost use lib.Ieee.{Float, neg};
-ghost use lib.Dec.{ltb};
+ghost use Prim.Native.Nat.{_-_};
 ghost use lib.ListN.{length};
-ghost use Rattle.model.specs.Numbers.{at};
-ghost use Rattle.model.specs.Lists.{list, over, given};
-ghost use Rattle.model.specs.Problem.{n, m, stop};
+ghost use Rattle.model.specs.Lent.{atEntry};
 ghost use Rattle.model.specs.Standard.{inequalities};
 ghost use Rattle.first_order.specs.Limits.{limits};
 ghost use Rattle.acc_jerk.specs.Tables.{accOf, jerkOf, Few, AccSized, JerkSized};
 ghost use Rattle.standard.specs.Block.{standardCones};
+ghost use Rattle.buffers.specs.Bounds.{inequalitiesRoom, standardRoom};
 ghost use Rattle.buffers.specs.Lent.{Room, RoomAll, wrote, closed};
 ghost use Rattle.buffers.specs.Inputs.{path, Sized};
 use model::Boundary;
@@ -23,83 +19,119 @@ use model::Tally;
 // All inequalities.
 fn inequalities(
     t: Tally,
-    r: &mut [u32],
-    c: &mut [u32],
-    v: &mut [f64],
-    h: &mut [f64],
-    s: &[f64],
-    e: Ends,
+    rows: &mut [u32],
+    columns: &mut [u32],
+    values: &mut [f64],
+    right: &mut [f64],
+    grid: &[f64],
+    ends: Ends,
     amax: &[f64],
-    counts: &[u32],
-    aa: &[f64],
-    ab: &[f64],
-    ah: &[f64],
-    turns: &[u32],
-    ja: &[f64],
-    jb: &[f64],
-    jc: &[f64],
-    jh: &[f64],
-    lo: Bounds,
-    hi: Bounds,
+    acc_rows: &[u32],
+    acc_a: &[f64],
+    acc_b: &[f64],
+    acc_max: &[f64],
+    jerk_rows: &[u32],
+    jerk_a: &[f64],
+    jerk_b: &[f64],
+    jerk_c: &[f64],
+    jerk_max: &[f64],
+    start: Bounds,
+    end: Bounds,
 ) -> Tally
-    requires { ⌜ Room t (772 * length (now s) + 4) × Sized (now s) e × (length (now amax) ≡ length (now s)) × AccSized (now s) (now counts) (now aa) (now ab) (now ah) × Few (now counts) × JerkSized (now s) (now turns) (now ja) (now jb) (now jc) (now jh) × Few (now turns) ⌝ }
-    ensures { λ t′. ⌜ wrote t r c v h t′ (inequalities (path (now (s .entry)) e) (limits lo hi (now (amax .entry))) (accOf (now (counts .entry)) (now (aa .entry)) (now (ab .entry)) (now (ah .entry))) (jerkOf (now (turns .entry)) (now (ja .entry)) (now (jb .entry)) (now (jc .entry)) (now (jh .entry)))) (772 * length (now (s .entry)) + 4) ⌝ }
+    requires { ⌜ Room t (inequalitiesRoom (length (now grid))) × Sized (now grid) ends × (length (now amax) ≡ length (now grid)) × AccSized (now grid) (now «acc_rows») (now «acc_a») (now «acc_b») (now «acc_max») × Few (now «acc_rows») × JerkSized (now grid) (now «jerk_rows») (now «jerk_a») (now «jerk_b») (now «jerk_c») (now «jerk_max») × Few (now «jerk_rows») ⌝ }
+    ensures { λ t′. ⌜ wrote t rows columns values right t′ (inequalities (path (atEntry grid) ends) (limits start end (atEntry amax)) (accOf (atEntry «acc_rows») (atEntry «acc_a») (atEntry «acc_b») (atEntry «acc_max»)) (jerkOf (atEntry «jerk_rows») (atEntry «jerk_a») (atEntry «jerk_b») (atEntry «jerk_c») (atEntry «jerk_max»))) (inequalitiesRoom (length (atEntry grid))) ⌝ }
 {
-    let u = first_order::clarabel_1order_constraint_topp3(t, r, c, v, h, s, e, amax, lo, hi);
-    let u = acc_jerk::clarabel_2order_constraint_topp3(u, r, c, v, h, s, e, counts, aa, ab, ah);
-    acc_jerk::clarabel_3order_constraint_topp3(u, r, c, v, h, s, e, turns, ja, jb, jc, jh)
+    let u = first_order::clarabel_1order_constraint_topp3(
+        t,
+        rows,
+        columns,
+        values,
+        right,
+        grid,
+        ends,
+        amax,
+        start,
+        end,
+    );
+    let u = acc_jerk::clarabel_2order_constraint_topp3(
+        u,
+        rows,
+        columns,
+        values,
+        right,
+        grid,
+        ends,
+        acc_rows,
+        acc_a,
+        acc_b,
+        acc_max,
+    );
+    acc_jerk::clarabel_3order_constraint_topp3(
+        u,
+        rows,
+        columns,
+        values,
+        right,
+        grid,
+        ends,
+        jerk_rows,
+        jerk_a,
+        jerk_b,
+        jerk_c,
+        jerk_max,
+    )
 }
 
 // The block.
 pub fn clarabel_standard_constraint_topp3(
     t: Tally,
     rows: &mut [u32],
-    cols: &mut [u32],
-    vals: &mut [f64],
+    columns: &mut [u32],
+    values: &mut [f64],
     right: &mut [f64],
     kinds: &mut [u8],
-    dims: &mut [u32],
-    s: &[f64],
-    e: Ends,
+    dimensions: &mut [u32],
+    grid: &[f64],
+    ends: Ends,
     amax: &[f64],
-    counts: &[u32],
-    aa: &[f64],
-    ab: &[f64],
-    ah: &[f64],
-    turns: &[u32],
-    ja: &[f64],
-    jb: &[f64],
-    jc: &[f64],
-    jh: &[f64],
-    x: Boundary,
-    lo: Bounds,
-    hi: Bounds,
+    acc_rows: &[u32],
+    acc_a: &[f64],
+    acc_b: &[f64],
+    acc_max: &[f64],
+    jerk_rows: &[u32],
+    jerk_a: &[f64],
+    jerk_b: &[f64],
+    jerk_c: &[f64],
+    jerk_max: &[f64],
+    boundary: Boundary,
+    start: Bounds,
+    end: Bounds,
 ) -> Tally
-    requires { ⌜ RoomAll t (773 * length (now s) + 10) × Sized (now s) e × (length (now amax) ≡ length (now s)) × AccSized (now s) (now counts) (now aa) (now ab) (now ah) × Few (now counts) × JerkSized (now s) (now turns) (now ja) (now jb) (now jc) (now jh) × Few (now turns) ⌝ }
-    ensures { λ r. ⌜ closed t rows cols vals right kinds dims r (standardCones (path (now (s .entry)) e) x (limits lo hi (now (amax .entry))) (accOf (now (counts .entry)) (now (aa .entry)) (now (ab .entry)) (now (ah .entry))) (jerkOf (now (turns .entry)) (now (ja .entry)) (now (jb .entry)) (now (jc .entry)) (now (jh .entry)))) (773 * length (now (s .entry)) + 10) ⌝ }
+    requires { ⌜ RoomAll t (standardRoom (length (now grid))) × Sized (now grid) ends × (length (now amax) ≡ length (now grid)) × AccSized (now grid) (now «acc_rows») (now «acc_a») (now «acc_b») (now «acc_max») × Few (now «acc_rows») × JerkSized (now grid) (now «jerk_rows») (now «jerk_a») (now «jerk_b») (now «jerk_c») (now «jerk_max») × Few (now «jerk_rows») ⌝ }
+    ensures { λ r. ⌜ closed t rows columns values right kinds dimensions r (standardCones (path (atEntry grid) ends) boundary (limits start end (atEntry amax)) (accOf (atEntry «acc_rows») (atEntry «acc_a») (atEntry «acc_b») (atEntry «acc_max»)) (jerkOf (atEntry «jerk_rows») (atEntry «jerk_a») (atEntry «jerk_b») (atEntry «jerk_c») (atEntry «jerk_max»))) (standardRoom (length (atEntry grid))) ⌝ }
 {
-    let u = dynamic::equalities(t, rows, cols, vals, right, s, e, x);
-    let v = buffers::put_cone(u, kinds, dims, 0, u.rows - t.rows);
+    let u = dynamic::equalities(t, rows, columns, values, right, grid, ends, boundary);
+    let v = buffers::put_cone(u, kinds, dimensions, 0, u.rows.at - t.rows.at);
     let w = inequalities(
         v,
         rows,
-        cols,
-        vals,
+        columns,
+        values,
         right,
-        s,
-        e,
+        grid,
+        ends,
         amax,
-        counts,
-        aa,
-        ab,
-        ah,
-        turns,
-        ja,
-        jb,
-        jc,
-        jh,
-        lo,
-        hi,
+        acc_rows,
+        acc_a,
+        acc_b,
+        acc_max,
+        jerk_rows,
+        jerk_a,
+        jerk_b,
+        jerk_c,
+        jerk_max,
+        start,
+        end,
     );
-    buffers::put_cone(w, kinds, dims, 1, w.rows - v.rows)
+    buffers::put_cone(w, kinds, dimensions, 1, w.rows.at - v.rows.at)
 }

@@ -1,8 +1,8 @@
 -- ThermalEnergy's cones and costs, of what a writer has.
 use mathlib.Core.List.{List, [], _∷_}
-use Prim.Native.Nat.{ℕ, _+_, _-_, _*_}
+use Prim.Native.Nat.{ℕ, _+_, _*_}
 use lib.Ieee.{Float, neg, nan}
-use lib.ListN.{length, getD}
+use lib.ListN.{getD}
 use Rattle.model.specs.Numbers.{at, _⊕_, _⊗_, +0, +1, −1}
 use Rattle.model.specs.Program.{Cell, cell, Band, band, Cone}
 use Rattle.model.specs.Problem.{Path, Torque, onGrid, colA, colB}

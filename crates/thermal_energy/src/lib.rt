@@ -1,21 +1,27 @@
 // ThermalEnergy: a second-order cone for each positive end and for each xi, and the costs of their own columns.
 
 ghost use mathlib.Core.Path.{_≡_};
-ghost use mathlib.Core.List.{List, [], _∷_, _++_};
-ghost use Prim.Native.Nat.{ℕ, _+_, _-_, _*_, _^_, _<_, _≤_, min, max};
-ghost use lib.Ieee.{Float, neg};
+ghost use mathlib.Core.List.{[], _∷_, _++_};
+ghost use Prim.Native.Nat.{_+_, _-_, _*_, _^_, _<_, _≤_};
+ghost use lib.Ieee.{neg};
 ghost use lib.Dec.{ltb};
 ghost use lib.ListN.{length};
+ghost use Rattle.model.specs.Lent.{atEntry, atExit};
 ghost use Rattle.model.specs.Numbers.{at, _⊕_, _⊗_, +4};
 ghost use Rattle.model.specs.Lists.{list, given};
 ghost use Rattle.model.specs.Program.{cell};
-ghost use Rattle.model.specs.Problem.{n, L, skip, stop, ends, flag};
+ghost use Rattle.model.specs.Problem;
+ghost use Rattle.model.specs.Problem.{n, L, skip, stop, flag};
 ghost use Rattle.model.specs.Objectives.{thermalBlock};
+ghost use Rattle.buffers.specs.Bounds.{mostStations, mostJoints, thermalConeRoom, thermalRoom};
 ghost use Rattle.buffers.specs.Buffers.{Costs};
-ghost use Rattle.buffers.specs.Lent.{Room, RoomAll, fills, columns, fillsRight, fillsCost, wrote, closed, built};
+ghost use Rattle.buffers.specs.Lent.{Room, RoomAll, fills, fillsColumns, fillsRight, fillsCost, wrote, closed, built};
 ghost use Rattle.buffers.specs.Inputs.{path, Sized, torqueOf};
 ghost use Rattle.torque.specs.Given.{Given};
 ghost use Rattle.thermal_energy.specs.Cones.{firstBand, jointColumns, scaledAt, endCone, movingCone, thermalCones, thermalCosts};
+use columns::column_a;
+use columns::column_b;
+use columns::column_xi;
 use model::Column;
 use model::Ends;
 use model::Row;
@@ -26,24 +32,24 @@ use model::Term;
 fn first_rows(
     t: Tally,
     rows: &mut [u32],
-    cols: &mut [u32],
-    vals: &mut [f64],
+    columns: &mut [u32],
+    values: &mut [f64],
     right: &mut [f64],
     own: Column,
     xi: Column,
 ) -> Tally
     requires { ⌜ Room t 2 × (own .at < 2 ^ 32) × (xi .at < 2 ^ 32) ⌝ }
-    ensures { λ r. ⌜ wrote t rows cols vals right r (firstBand (own .at) (xi .at) ∷ []) 2 ⌝ }
+    ensures { λ r. ⌜ wrote t rows columns values right r (firstBand (own .at) (xi .at) ∷ []) 2 ⌝ }
 {
-    let upper = Row { at: t.rows };
-    let lower = Row { at: t.rows + 1 };
+    let upper = t.rows;
+    let lower = Row { at: upper.at + 1 };
     let p = Term { col: own, v: -1.0 };
-    let u = buffers::put(t, rows, cols, vals, upper, p);
-    let u = buffers::put(u, rows, cols, vals, lower, p);
+    let u = buffers::put(t, rows, columns, values, upper, p);
+    let u = buffers::put(u, rows, columns, values, lower, p);
     let q = Term { col: xi, v: -1.0 };
-    let u = buffers::put(u, rows, cols, vals, upper, q);
+    let u = buffers::put(u, rows, columns, values, upper, q);
     let q = Term { col: xi, v: 1.0 };
-    let u = buffers::put(u, rows, cols, vals, lower, q);
+    let u = buffers::put(u, rows, columns, values, lower, q);
     buffers::right_same(u, right, 0.0, 2)
 }
 
@@ -51,8 +57,8 @@ fn first_rows(
 fn column_scaled(
     t: Tally,
     rows: &mut [u32],
-    cols: &mut [u32],
-    vals: &mut [f64],
+    columns: &mut [u32],
+    values: &mut [f64],
     row: Row,
     col: Column,
     table: &[f64],
@@ -61,7 +67,7 @@ fn column_scaled(
     k: usize,
 ) -> Tally
     requires { ⌜ (t .entries + d < 2 ^ 64) × (row .at + d ≤ 2 ^ 32) × (col .at < 2 ^ 32) × (k * d + d ≤ length (now table)) × (length (now scales) ≡ d) ⌝ }
-    ensures { λ r. ⌜ fills t rows cols vals r (row .at) (λ i. cell (col .at) (scaledAt (now (table .entry)) (now (scales .entry)) d k i)) d ⌝ }
+    ensures { λ r. ⌜ fills t rows columns values r (row .at) (λ i. cell (col .at) (scaledAt (atEntry table) (atEntry scales) d k i)) d ⌝ }
 {
     let mut u = t;
     for i in 0..d {
@@ -69,7 +75,7 @@ fn column_scaled(
             col: col,
             v: torque::scaled(table, scales, d, k, i),
         };
-        u = buffers::put(u, rows, cols, vals, Row { at: row.at + i }, p);
+        u = buffers::put(u, rows, columns, values, Row { at: row.at + i }, p);
     }
     u
 }
@@ -78,44 +84,42 @@ fn column_scaled(
 fn joint_columns(
     t: Tally,
     rows: &mut [u32],
-    cols: &mut [u32],
-    vals: &mut [f64],
-    s: &[f64],
-    ta: &[f64],
-    tb: &[f64],
+    columns: &mut [u32],
+    values: &mut [f64],
+    grid: &[f64],
+    torque_a: &[f64],
+    torque_b: &[f64],
     scales: &[f64],
     d: usize,
     k: usize,
 ) -> Tally
-    requires { ⌜ Room t 32 × (d ≤ 32) × (k < length (now s)) × (length (now s) ≤ 4097) × (length (now ta) ≡ length (now s) * d) × (length (now tb) ≡ length (now s) * d) × (length (now scales) ≡ d) ⌝ }
-    ensures { λ r. ⌜ columns t rows cols vals r (t .rows) (jointColumns (now (s .entry)) (now (ta .entry)) (now (tb .entry)) (now (scales .entry)) d k) d ⌝ }
+    requires { ⌜ Room t mostJoints × (d ≤ mostJoints) × (k < length (now grid)) × (length (now grid) ≤ mostStations) × (length (now «torque_a») ≡ length (now grid) * d) × (length (now «torque_b») ≡ length (now grid) * d) × (length (now scales) ≡ d) ⌝ }
+    ensures { λ r. ⌜ fillsColumns t rows columns values r (t .rows .at) (jointColumns (atEntry grid) (atEntry «torque_a») (atEntry «torque_b») (atEntry scales) d k) d ⌝ }
 {
-    let row = Row { at: t.rows };
-    let a = Column { at: k };
-    let u = column_scaled(t, rows, cols, vals, row, a, ta, scales, d, k);
-    let b = Column {
-        at: s.len() - 1 + 1 + k,
-    };
-    column_scaled(u, rows, cols, vals, row, b, tb, scales, d, k)
+    let row = t.rows;
+    let a = column_a(k);
+    let u = column_scaled(t, rows, columns, values, row, a, torque_a, scales, d, k);
+    let b = column_b(grid, k);
+    column_scaled(u, rows, columns, values, row, b, torque_b, scales, d, k)
 }
 
 // The right sides of an end: k is the moving station, z the resting one.
 fn right_end(
     t: Tally,
     right: &mut [f64],
-    tg: &[f64],
+    torque_g: &[f64],
     scales: &[f64],
     d: usize,
     k: usize,
     z: usize,
 ) -> Tally
-    requires { ⌜ (t .rows + d < 2 ^ 64) × (k * d + d ≤ length (now tg)) × (z * d + d ≤ length (now tg)) × (length (now scales) ≡ d) ⌝ }
-    ensures { λ r. ⌜ fillsRight t right r (λ i. neg (scaledAt (now (tg .entry)) (now (scales .entry)) d k i ⊕ scaledAt (now (tg .entry)) (now (scales .entry)) d z i)) d ⌝ }
+    requires { ⌜ (t .rows .at + d < 2 ^ 64) × (k * d + d ≤ length (now «torque_g»)) × (z * d + d ≤ length (now «torque_g»)) × (length (now scales) ≡ d) ⌝ }
+    ensures { λ r. ⌜ fillsRight t right r (λ i. neg (scaledAt (atEntry «torque_g») (atEntry scales) d k i ⊕ scaledAt (atEntry «torque_g») (atEntry scales) d z i)) d ⌝ }
 {
     let mut u = t;
     for i in 0..d {
-        let g = torque::scaled(tg, scales, d, k, i);
-        let h = torque::scaled(tg, scales, d, z, i);
+        let g = torque::scaled(torque_g, scales, d, k, i);
+        let h = torque::scaled(torque_g, scales, d, z, i);
         u = buffers::put_right(u, right, -(g + h));
     }
     u
@@ -125,17 +129,17 @@ fn right_end(
 fn right_moving(
     t: Tally,
     right: &mut [f64],
-    tg: &[f64],
+    torque_g: &[f64],
     scales: &[f64],
     d: usize,
     k: usize,
 ) -> Tally
-    requires { ⌜ (t .rows + d < 2 ^ 64) × (k * d + d ≤ length (now tg)) × (length (now scales) ≡ d) ⌝ }
-    ensures { λ r. ⌜ fillsRight t right r (λ i. neg (scaledAt (now (tg .entry)) (now (scales .entry)) d k i)) d ⌝ }
+    requires { ⌜ (t .rows .at + d < 2 ^ 64) × (k * d + d ≤ length (now «torque_g»)) × (length (now scales) ≡ d) ⌝ }
+    ensures { λ r. ⌜ fillsRight t right r (λ i. neg (scaledAt (atEntry «torque_g») (atEntry scales) d k i)) d ⌝ }
 {
     let mut u = t;
     for i in 0..d {
-        let g = torque::scaled(tg, scales, d, k, i);
+        let g = torque::scaled(torque_g, scales, d, k, i);
         u = buffers::put_right(u, right, -g);
     }
     u
@@ -145,14 +149,14 @@ fn right_moving(
 fn end_rows(
     t: Tally,
     rows: &mut [u32],
-    cols: &mut [u32],
-    vals: &mut [f64],
+    columns: &mut [u32],
+    values: &mut [f64],
     right: &mut [f64],
-    s: &[f64],
-    e: Ends,
-    ta: &[f64],
-    tb: &[f64],
-    tg: &[f64],
+    grid: &[f64],
+    ends: Ends,
+    torque_a: &[f64],
+    torque_b: &[f64],
+    torque_g: &[f64],
     scales: &[f64],
     d: usize,
     own: Column,
@@ -160,60 +164,78 @@ fn end_rows(
     k: usize,
     z: usize,
 ) -> Tally
-    requires { ⌜ Room t 34 × Given (now s) e (now ta) (now tb) (now tg) (now scales) d × (own .at < 2 ^ 32) × (j < length (now s)) × (k < length (now s)) × (z < length (now s)) ⌝ }
-    ensures { λ r. ⌜ wrote t rows cols vals right r (endCone (now (s .entry)) e (now (ta .entry)) (now (tb .entry)) (now (tg .entry)) (now (scales .entry)) d (own .at) j k z .bands) 34 ⌝ }
+    requires { ⌜ Room t thermalConeRoom × Given (now grid) ends (now «torque_a») (now «torque_b») (now «torque_g») (now scales) d × (own .at < 2 ^ 32) × (j < length (now grid)) × (k < length (now grid)) × (z < length (now grid)) ⌝ }
+    ensures { λ r. ⌜ wrote t rows columns values right r (endCone (atEntry grid) ends (atEntry «torque_a») (atEntry «torque_b») (atEntry «torque_g») (atEntry scales) d (own .at) j k z .bands) thermalConeRoom ⌝ }
 {
-    let xi = Column {
-        at: 2 * (s.len() - 1 + 1) + j,
-    };
-    let u = first_rows(t, rows, cols, vals, right, own, xi);
-    let u = joint_columns(u, rows, cols, vals, s, ta, tb, scales, d, k);
-    right_end(u, right, tg, scales, d, k, z)
+    let xi = column_xi(grid, j);
+    let u = first_rows(t, rows, columns, values, right, own, xi);
+    let u = joint_columns(
+        u,
+        rows,
+        columns,
+        values,
+        grid,
+        torque_a,
+        torque_b,
+        scales,
+        d,
+        k,
+    );
+    right_end(u, right, torque_g, scales, d, k, z)
 }
 
 // The rows of the cone of a moving station.
 fn moving_rows(
     t: Tally,
     rows: &mut [u32],
-    cols: &mut [u32],
-    vals: &mut [f64],
+    columns: &mut [u32],
+    values: &mut [f64],
     right: &mut [f64],
-    s: &[f64],
-    e: Ends,
-    ta: &[f64],
-    tb: &[f64],
-    tg: &[f64],
+    grid: &[f64],
+    ends: Ends,
+    torque_a: &[f64],
+    torque_b: &[f64],
+    torque_g: &[f64],
     scales: &[f64],
     d: usize,
     own: Column,
     j: usize,
     k: usize,
 ) -> Tally
-    requires { ⌜ Room t 34 × Given (now s) e (now ta) (now tb) (now tg) (now scales) d × (own .at < 2 ^ 32) × (j < length (now s)) × (k < length (now s)) ⌝ }
-    ensures { λ r. ⌜ wrote t rows cols vals right r (movingCone (now (s .entry)) e (now (ta .entry)) (now (tb .entry)) (now (tg .entry)) (now (scales .entry)) d (own .at) j k .bands) 34 ⌝ }
+    requires { ⌜ Room t thermalConeRoom × Given (now grid) ends (now «torque_a») (now «torque_b») (now «torque_g») (now scales) d × (own .at < 2 ^ 32) × (j < length (now grid)) × (k < length (now grid)) ⌝ }
+    ensures { λ r. ⌜ wrote t rows columns values right r (movingCone (atEntry grid) ends (atEntry «torque_a») (atEntry «torque_b») (atEntry «torque_g») (atEntry scales) d (own .at) j k .bands) thermalConeRoom ⌝ }
 {
-    let xi = Column {
-        at: 2 * (s.len() - 1 + 1) + j,
-    };
-    let u = first_rows(t, rows, cols, vals, right, own, xi);
-    let u = joint_columns(u, rows, cols, vals, s, ta, tb, scales, d, k);
-    right_moving(u, right, tg, scales, d, k)
+    let xi = column_xi(grid, j);
+    let u = first_rows(t, rows, columns, values, right, own, xi);
+    let u = joint_columns(
+        u,
+        rows,
+        columns,
+        values,
+        grid,
+        torque_a,
+        torque_b,
+        scales,
+        d,
+        k,
+    );
+    right_moving(u, right, torque_g, scales, d, k)
 }
 
 // The cone of an end.
 fn end_cone(
     t: Tally,
     rows: &mut [u32],
-    cols: &mut [u32],
-    vals: &mut [f64],
+    columns: &mut [u32],
+    values: &mut [f64],
     right: &mut [f64],
     kinds: &mut [u8],
-    dims: &mut [u32],
-    s: &[f64],
-    e: Ends,
-    ta: &[f64],
-    tb: &[f64],
-    tg: &[f64],
+    dimensions: &mut [u32],
+    grid: &[f64],
+    ends: Ends,
+    torque_a: &[f64],
+    torque_b: &[f64],
+    torque_g: &[f64],
     scales: &[f64],
     d: usize,
     own: Column,
@@ -221,20 +243,20 @@ fn end_cone(
     k: usize,
     z: usize,
 ) -> Tally
-    requires { ⌜ RoomAll t 34 × Given (now s) e (now ta) (now tb) (now tg) (now scales) d × (own .at < 2 ^ 32) × (j < length (now s)) × (k < length (now s)) × (z < length (now s)) ⌝ }
-    ensures { λ r. ⌜ closed t rows cols vals right kinds dims r (endCone (now (s .entry)) e (now (ta .entry)) (now (tb .entry)) (now (tg .entry)) (now (scales .entry)) d (own .at) j k z ∷ []) 34 ⌝ }
+    requires { ⌜ RoomAll t thermalConeRoom × Given (now grid) ends (now «torque_a») (now «torque_b») (now «torque_g») (now scales) d × (own .at < 2 ^ 32) × (j < length (now grid)) × (k < length (now grid)) × (z < length (now grid)) ⌝ }
+    ensures { λ r. ⌜ closed t rows columns values right kinds dimensions r (endCone (atEntry grid) ends (atEntry «torque_a») (atEntry «torque_b») (atEntry «torque_g») (atEntry scales) d (own .at) j k z ∷ []) thermalConeRoom ⌝ }
 {
     let u = end_rows(
         t,
         rows,
-        cols,
-        vals,
+        columns,
+        values,
         right,
-        s,
-        e,
-        ta,
-        tb,
-        tg,
+        grid,
+        ends,
+        torque_a,
+        torque_b,
+        torque_g,
         scales,
         d,
         own,
@@ -242,94 +264,94 @@ fn end_cone(
         k,
         z,
     );
-    buffers::put_cone(u, kinds, dims, 2, u.rows - t.rows)
+    buffers::put_cone(u, kinds, dimensions, 2, u.rows.at - t.rows.at)
 }
 
 // The cone of a moving station.
 fn moving_cone(
     t: Tally,
     rows: &mut [u32],
-    cols: &mut [u32],
-    vals: &mut [f64],
+    columns: &mut [u32],
+    values: &mut [f64],
     right: &mut [f64],
     kinds: &mut [u8],
-    dims: &mut [u32],
-    s: &[f64],
-    e: Ends,
-    ta: &[f64],
-    tb: &[f64],
-    tg: &[f64],
+    dimensions: &mut [u32],
+    grid: &[f64],
+    ends: Ends,
+    torque_a: &[f64],
+    torque_b: &[f64],
+    torque_g: &[f64],
     scales: &[f64],
     d: usize,
     own: Column,
     j: usize,
     k: usize,
 ) -> Tally
-    requires { ⌜ RoomAll t 34 × Given (now s) e (now ta) (now tb) (now tg) (now scales) d × (own .at < 2 ^ 32) × (j < length (now s)) × (k < length (now s)) ⌝ }
-    ensures { λ r. ⌜ closed t rows cols vals right kinds dims r (movingCone (now (s .entry)) e (now (ta .entry)) (now (tb .entry)) (now (tg .entry)) (now (scales .entry)) d (own .at) j k ∷ []) 34 ⌝ }
+    requires { ⌜ RoomAll t thermalConeRoom × Given (now grid) ends (now «torque_a») (now «torque_b») (now «torque_g») (now scales) d × (own .at < 2 ^ 32) × (j < length (now grid)) × (k < length (now grid)) ⌝ }
+    ensures { λ r. ⌜ closed t rows columns values right kinds dimensions r (movingCone (atEntry grid) ends (atEntry «torque_a») (atEntry «torque_b») (atEntry «torque_g») (atEntry scales) d (own .at) j k ∷ []) thermalConeRoom ⌝ }
 {
     let u = moving_rows(
         t,
         rows,
-        cols,
-        vals,
+        columns,
+        values,
         right,
-        s,
-        e,
-        ta,
-        tb,
-        tg,
+        grid,
+        ends,
+        torque_a,
+        torque_b,
+        torque_g,
         scales,
         d,
         own,
         j,
         k,
     );
-    buffers::put_cone(u, kinds, dims, 2, u.rows - t.rows)
+    buffers::put_cone(u, kinds, dimensions, 2, u.rows.at - t.rows.at)
 }
 
 // The start's cone, if its count is positive.
 fn start_part(
     t: Tally,
     rows: &mut [u32],
-    cols: &mut [u32],
-    vals: &mut [f64],
+    columns: &mut [u32],
+    values: &mut [f64],
     right: &mut [f64],
     kinds: &mut [u8],
-    dims: &mut [u32],
-    s: &[f64],
-    e: Ends,
-    ta: &[f64],
-    tb: &[f64],
-    tg: &[f64],
+    dimensions: &mut [u32],
+    grid: &[f64],
+    ends: Ends,
+    torque_a: &[f64],
+    torque_b: &[f64],
+    torque_g: &[f64],
     scales: &[f64],
     d: usize,
     col: Column,
 ) -> Tally
-    requires { ⌜ RoomAll t 34 × Given (now s) e (now ta) (now tb) (now tg) (now scales) d × (col .at < 2 ^ 32) ⌝ }
-    ensures { λ r. ⌜ closed t rows cols vals right kinds dims r (given (ltb 0 (e .n0)) (endCone (now (s .entry)) e (now (ta .entry)) (now (tb .entry)) (now (tg .entry)) (now (scales .entry)) d (col .at) 0 (e .n0) 0 ∷ [])) 34 ⌝ }
+    requires { ⌜ RoomAll t thermalConeRoom × Given (now grid) ends (now «torque_a») (now «torque_b») (now «torque_g») (now scales) d × (col .at < 2 ^ 32) ⌝ }
+    ensures { λ r. ⌜ closed t rows columns values right kinds dimensions r (given (ltb 0 (ends .n0)) (endCone (atEntry grid) ends (atEntry «torque_a») (atEntry «torque_b») (atEntry «torque_g») (atEntry scales) d (col .at) 0 (ends .n0) 0 ∷ [])) thermalConeRoom ⌝ }
 {
-    if e.n0 == 0 {
+    if ends.n0 == 0 {
         return t;
     }
     end_cone(
         t,
         rows,
-        cols,
-        vals,
+        columns,
+        values,
         right,
         kinds,
-        dims,
-        s,
-        e,
-        ta,
-        tb,
-        tg,
+        dimensions,
+        grid,
+        ends,
+        torque_a,
+        torque_b,
+        torque_g,
         scales,
         d,
         col,
         0,
-        e.n0,
+        ends.n0,
         0,
     )
 }
@@ -338,49 +360,49 @@ fn start_part(
 fn end_part(
     t: Tally,
     rows: &mut [u32],
-    cols: &mut [u32],
-    vals: &mut [f64],
+    columns: &mut [u32],
+    values: &mut [f64],
     right: &mut [f64],
     kinds: &mut [u8],
-    dims: &mut [u32],
-    s: &[f64],
-    e: Ends,
-    ta: &[f64],
-    tb: &[f64],
-    tg: &[f64],
+    dimensions: &mut [u32],
+    grid: &[f64],
+    ends: Ends,
+    torque_a: &[f64],
+    torque_b: &[f64],
+    torque_g: &[f64],
     scales: &[f64],
     d: usize,
     col: Column,
 ) -> Tally
-    requires { ⌜ RoomAll t 34 × Given (now s) e (now ta) (now tb) (now tg) (now scales) d × (col .at + 1 < 2 ^ 32) ⌝ }
-    ensures { λ r. ⌜ closed t rows cols vals right kinds dims r (given (ltb 0 (e .n1)) (endCone (now (s .entry)) e (now (ta .entry)) (now (tb .entry)) (now (tg .entry)) (now (scales .entry)) d (col .at + flag (e .n0)) (L (path (now (s .entry)) e) - 1) (stop (path (now (s .entry)) e)) (n (path (now (s .entry)) e)) ∷ [])) 34 ⌝ }
+    requires { ⌜ RoomAll t thermalConeRoom × Given (now grid) ends (now «torque_a») (now «torque_b») (now «torque_g») (now scales) d × (col .at + 1 < 2 ^ 32) ⌝ }
+    ensures { λ r. ⌜ closed t rows columns values right kinds dimensions r (given (ltb 0 (ends .n1)) (endCone (atEntry grid) ends (atEntry «torque_a») (atEntry «torque_b») (atEntry «torque_g») (atEntry scales) d (col .at + flag (ends .n0)) (L (path (atEntry grid) ends) - 1) (stop (path (atEntry grid) ends)) (n (path (atEntry grid) ends)) ∷ [])) thermalConeRoom ⌝ }
 {
-    if e.n1 == 0 {
+    if ends.n1 == 0 {
         return t;
     }
-    let last = s.len() - 1;
+    let last = grid.len() - 1;
     let own = Column {
-        at: col.at + numbers::flag(e.n0),
+        at: col.at + numbers::flag(ends.n0),
     };
-    let j = xi::length_xi(s, e) - 1;
+    let j = columns::length_xi(grid, ends) - 1;
     end_cone(
         t,
         rows,
-        cols,
-        vals,
+        columns,
+        values,
         right,
         kinds,
-        dims,
-        s,
-        e,
-        ta,
-        tb,
-        tg,
+        dimensions,
+        grid,
+        ends,
+        torque_a,
+        torque_b,
+        torque_g,
         scales,
         d,
         own,
         j,
-        last - e.n1,
+        last - ends.n1,
         last,
     )
 }
@@ -389,42 +411,42 @@ fn end_part(
 fn moving_cones(
     t: Tally,
     rows: &mut [u32],
-    cols: &mut [u32],
-    vals: &mut [f64],
+    columns: &mut [u32],
+    values: &mut [f64],
     right: &mut [f64],
     kinds: &mut [u8],
-    dims: &mut [u32],
-    s: &[f64],
-    e: Ends,
-    ta: &[f64],
-    tb: &[f64],
-    tg: &[f64],
+    dimensions: &mut [u32],
+    grid: &[f64],
+    ends: Ends,
+    torque_a: &[f64],
+    torque_b: &[f64],
+    torque_g: &[f64],
     scales: &[f64],
     d: usize,
     col: Column,
 ) -> Tally
-    requires { ⌜ RoomAll t (34 * length (now s)) × Given (now s) e (now ta) (now tb) (now tg) (now scales) d × (col .at + length (now s) + 2 ≤ 2 ^ 32) ⌝ }
-    ensures { λ r. ⌜ closed t rows cols vals right kinds dims r (list (λ j. movingCone (now (s .entry)) e (now (ta .entry)) (now (tb .entry)) (now (tg .entry)) (now (scales .entry)) d (col .at + ends (path (now (s .entry)) e) + j) j (skip (path (now (s .entry)) e) + j)) 0 (L (path (now (s .entry)) e))) (34 * length (now (s .entry))) ⌝ }
+    requires { ⌜ RoomAll t (thermalConeRoom * length (now grid)) × Given (now grid) ends (now «torque_a») (now «torque_b») (now «torque_g») (now scales) d × (col .at + length (now grid) + 2 ≤ 2 ^ 32) ⌝ }
+    ensures { λ r. ⌜ closed t rows columns values right kinds dimensions r (list (λ j. movingCone (atEntry grid) ends (atEntry «torque_a») (atEntry «torque_b») (atEntry «torque_g») (atEntry scales) d (col .at + Problem.ends (path (atEntry grid) ends) + j) j (skip (path (atEntry grid) ends) + j)) 0 (L (path (atEntry grid) ends))) (thermalConeRoom * length (atEntry grid)) ⌝ }
 {
-    let count = xi::length_xi(s, e);
-    let p = buffers::positive_ends(e);
-    let first = numbers::larger(e.n0, 1);
+    let count = columns::length_xi(grid, ends);
+    let p = buffers::positive_ends(ends);
+    let first = numbers::larger(ends.n0, 1);
     let mut u = t;
     for j in 0..count {
         let own = Column { at: col.at + p + j };
         u = moving_cone(
             u,
             rows,
-            cols,
-            vals,
+            columns,
+            values,
             right,
             kinds,
-            dims,
-            s,
-            e,
-            ta,
-            tb,
-            tg,
+            dimensions,
+            grid,
+            ends,
+            torque_a,
+            torque_b,
+            torque_g,
             scales,
             d,
             own,
@@ -439,36 +461,36 @@ fn moving_cones(
 fn end_cones(
     t: Tally,
     rows: &mut [u32],
-    cols: &mut [u32],
-    vals: &mut [f64],
+    columns: &mut [u32],
+    values: &mut [f64],
     right: &mut [f64],
     kinds: &mut [u8],
-    dims: &mut [u32],
-    s: &[f64],
-    e: Ends,
-    ta: &[f64],
-    tb: &[f64],
-    tg: &[f64],
+    dimensions: &mut [u32],
+    grid: &[f64],
+    ends: Ends,
+    torque_a: &[f64],
+    torque_b: &[f64],
+    torque_g: &[f64],
     scales: &[f64],
     d: usize,
     col: Column,
 ) -> Tally
-    requires { ⌜ RoomAll t 68 × Given (now s) e (now ta) (now tb) (now tg) (now scales) d × (col .at + 1 < 2 ^ 32) ⌝ }
-    ensures { λ r. ⌜ closed t rows cols vals right kinds dims r (given (ltb 0 (e .n0)) (endCone (now (s .entry)) e (now (ta .entry)) (now (tb .entry)) (now (tg .entry)) (now (scales .entry)) d (col .at) 0 (e .n0) 0 ∷ []) ++ given (ltb 0 (e .n1)) (endCone (now (s .entry)) e (now (ta .entry)) (now (tb .entry)) (now (tg .entry)) (now (scales .entry)) d (col .at + flag (e .n0)) (L (path (now (s .entry)) e) - 1) (stop (path (now (s .entry)) e)) (n (path (now (s .entry)) e)) ∷ [])) 68 ⌝ }
+    requires { ⌜ RoomAll t (2 * thermalConeRoom) × Given (now grid) ends (now «torque_a») (now «torque_b») (now «torque_g») (now scales) d × (col .at + 1 < 2 ^ 32) ⌝ }
+    ensures { λ r. ⌜ closed t rows columns values right kinds dimensions r (given (ltb 0 (ends .n0)) (endCone (atEntry grid) ends (atEntry «torque_a») (atEntry «torque_b») (atEntry «torque_g») (atEntry scales) d (col .at) 0 (ends .n0) 0 ∷ []) ++ given (ltb 0 (ends .n1)) (endCone (atEntry grid) ends (atEntry «torque_a») (atEntry «torque_b») (atEntry «torque_g») (atEntry scales) d (col .at + flag (ends .n0)) (L (path (atEntry grid) ends) - 1) (stop (path (atEntry grid) ends)) (n (path (atEntry grid) ends)) ∷ [])) (2 * thermalConeRoom) ⌝ }
 {
     let u = start_part(
         t,
         rows,
-        cols,
-        vals,
+        columns,
+        values,
         right,
         kinds,
-        dims,
-        s,
-        e,
-        ta,
-        tb,
-        tg,
+        dimensions,
+        grid,
+        ends,
+        torque_a,
+        torque_b,
+        torque_g,
         scales,
         d,
         col,
@@ -476,16 +498,16 @@ fn end_cones(
     end_part(
         u,
         rows,
-        cols,
-        vals,
+        columns,
+        values,
         right,
         kinds,
-        dims,
-        s,
-        e,
-        ta,
-        tb,
-        tg,
+        dimensions,
+        grid,
+        ends,
+        torque_a,
+        torque_b,
+        torque_g,
         scales,
         d,
         col,
@@ -496,36 +518,36 @@ fn end_cones(
 fn cones(
     t: Tally,
     rows: &mut [u32],
-    cols: &mut [u32],
-    vals: &mut [f64],
+    columns: &mut [u32],
+    values: &mut [f64],
     right: &mut [f64],
     kinds: &mut [u8],
-    dims: &mut [u32],
-    s: &[f64],
-    e: Ends,
-    ta: &[f64],
-    tb: &[f64],
-    tg: &[f64],
+    dimensions: &mut [u32],
+    grid: &[f64],
+    ends: Ends,
+    torque_a: &[f64],
+    torque_b: &[f64],
+    torque_g: &[f64],
     scales: &[f64],
     d: usize,
     col: Column,
 ) -> Tally
-    requires { ⌜ RoomAll t (34 * (length (now s) + 2)) × Given (now s) e (now ta) (now tb) (now tg) (now scales) d × (col .at + length (now s) + 2 ≤ 2 ^ 32) ⌝ }
-    ensures { λ r. ⌜ closed t rows cols vals right kinds dims r (thermalCones (path (now (s .entry)) e) (torqueOf d (now (ta .entry)) (now (tb .entry)) (now (tg .entry))) (now (scales .entry)) (col .at)) (34 * (length (now (s .entry)) + 2)) ⌝ }
+    requires { ⌜ RoomAll t (thermalRoom (length (now grid))) × Given (now grid) ends (now «torque_a») (now «torque_b») (now «torque_g») (now scales) d × (col .at + length (now grid) + 2 ≤ 2 ^ 32) ⌝ }
+    ensures { λ r. ⌜ closed t rows columns values right kinds dimensions r (thermalCones (path (atEntry grid) ends) (torqueOf d (atEntry «torque_a») (atEntry «torque_b») (atEntry «torque_g»)) (atEntry scales) (col .at)) (thermalRoom (length (atEntry grid))) ⌝ }
 {
     let u = end_cones(
         t,
         rows,
-        cols,
-        vals,
+        columns,
+        values,
         right,
         kinds,
-        dims,
-        s,
-        e,
-        ta,
-        tb,
-        tg,
+        dimensions,
+        grid,
+        ends,
+        torque_a,
+        torque_b,
+        torque_g,
         scales,
         d,
         col,
@@ -533,16 +555,16 @@ fn cones(
     moving_cones(
         u,
         rows,
-        cols,
-        vals,
+        columns,
+        values,
         right,
         kinds,
-        dims,
-        s,
-        e,
-        ta,
-        tb,
-        tg,
+        dimensions,
+        grid,
+        ends,
+        torque_a,
+        torque_b,
+        torque_g,
         scales,
         d,
         col,
@@ -550,80 +572,101 @@ fn cones(
 }
 
 // The cost of an end's column, if its count is positive: the weight itself, times that of the resting station k.
-fn end_cost(t: Tally, cost: &mut [f64], weights: &[f64], w: f64, count: usize, k: usize) -> Tally
-    requires { ⌜ (t .columns + 1 < 2 ^ 64) × (k < length (now weights)) ⌝ }
-    ensures { λ r. ⌜ fillsCost t cost r (λ i. w ⊗ at (now (weights .entry)) k) 0 (flag count) ⌝ }
+fn end_cost(
+    t: Tally,
+    cost: &mut [f64],
+    thermal: &[f64],
+    weight: f64,
+    count: usize,
+    k: usize,
+) -> Tally
+    requires { ⌜ (t .columns .at + 1 < 2 ^ 64) × (k < length (now thermal)) ⌝ }
+    ensures { λ r. ⌜ fillsCost t cost r (λ i. weight ⊗ at (atEntry thermal) k) 0 (flag count) ⌝ }
 {
     if count == 0 {
         return t;
     }
-    buffers::put_cost(t, cost, buffers::weighted(w, weights, k))
+    buffers::put_cost(t, cost, buffers::weighted(weight, thermal, k))
 }
 
 // The costs of the other columns: four times the weight.
-fn moving_costs(t: Tally, cost: &mut [f64], s: &[f64], e: Ends, weights: &[f64], w: f64) -> Tally
-    requires { ⌜ (t .columns + length (now s) ≤ 2 ^ 32) × Sized (now s) e × (length (now weights) ≡ length (now s)) ⌝ }
-    ensures { λ r. ⌜ fillsCost t cost r (λ j. +4 ⊗ w ⊗ at (now (weights .entry)) (skip (path (now (s .entry)) e) + j)) 0 (L (path (now (s .entry)) e)) ⌝ }
+fn moving_costs(
+    t: Tally,
+    cost: &mut [f64],
+    grid: &[f64],
+    ends: Ends,
+    thermal: &[f64],
+    weight: f64,
+) -> Tally
+    requires { ⌜ (t .columns .at + length (now grid) ≤ 2 ^ 32) × Sized (now grid) ends × (length (now thermal) ≡ length (now grid)) ⌝ }
+    ensures { λ r. ⌜ fillsCost t cost r (λ j. +4 ⊗ weight ⊗ at (atEntry thermal) (skip (path (atEntry grid) ends) + j)) 0 (L (path (atEntry grid) ends)) ⌝ }
 {
-    let count = xi::length_xi(s, e);
-    let first = numbers::larger(e.n0, 1);
-    let four = 4.0 * w;
+    let count = columns::length_xi(grid, ends);
+    let first = numbers::larger(ends.n0, 1);
+    let four = 4.0 * weight;
     let mut u = t;
     for j in 0..count {
-        u = buffers::put_cost(u, cost, buffers::weighted(four, weights, first + j));
+        u = buffers::put_cost(u, cost, buffers::weighted(four, thermal, first + j));
     }
     u
 }
 
 // All costs.
-fn costs(t: Tally, cost: &mut [f64], s: &[f64], e: Ends, weights: &[f64], w: f64) -> Tally
-    requires { ⌜ (t .columns + length (now s) + 2 ≤ 2 ^ 32) × Sized (now s) e × (length (now weights) ≡ length (now s)) ⌝ }
-    ensures { λ r. ⌜ Costs t (now (cost .entry)) r (now (cost .exit)) (thermalCosts (path (now (s .entry)) e) (now (weights .entry)) w) × (r .columns ≡ t .columns + (ends (path (now (s .entry)) e) + L (path (now (s .entry)) e))) ⌝ }
+fn costs(
+    t: Tally,
+    cost: &mut [f64],
+    grid: &[f64],
+    ends: Ends,
+    thermal: &[f64],
+    weight: f64,
+) -> Tally
+    requires { ⌜ (t .columns .at + length (now grid) + 2 ≤ 2 ^ 32) × Sized (now grid) ends × (length (now thermal) ≡ length (now grid)) ⌝ }
+    ensures { λ r. ⌜ Costs t (atEntry cost) r (atExit cost) (thermalCosts (path (atEntry grid) ends) (atEntry thermal) weight) × (r .columns .at ≡ t .columns .at + (Problem.ends (path (atEntry grid) ends) + L (path (atEntry grid) ends))) ⌝ }
 {
-    let u = end_cost(t, cost, weights, w, e.n0, 0);
-    let v = end_cost(u, cost, weights, w, e.n1, s.len() - 1);
-    moving_costs(v, cost, s, e, weights, w)
+    let u = end_cost(t, cost, thermal, weight, ends.n0, 0);
+    let v = end_cost(u, cost, thermal, weight, ends.n1, grid.len() - 1);
+    moving_costs(v, cost, grid, ends, thermal, weight)
 }
 
 // The block: its cones, and the costs of its own columns.
 pub fn clarabel_objective_thermal_energy_copp3(
     t: Tally,
     rows: &mut [u32],
-    cols: &mut [u32],
-    vals: &mut [f64],
+    columns: &mut [u32],
+    values: &mut [f64],
     right: &mut [f64],
     kinds: &mut [u8],
-    dims: &mut [u32],
+    dimensions: &mut [u32],
     cost: &mut [f64],
-    s: &[f64],
-    e: Ends,
-    weights: &[f64],
-    ta: &[f64],
-    tb: &[f64],
-    tg: &[f64],
+    grid: &[f64],
+    ends: Ends,
+    thermal: &[f64],
+    torque_a: &[f64],
+    torque_b: &[f64],
+    torque_g: &[f64],
     scales: &[f64],
     d: usize,
-    w: f64,
+    weight: f64,
 ) -> Tally
-    requires { ⌜ RoomAll t (34 * (length (now s) + 2)) × Given (now s) e (now ta) (now tb) (now tg) (now scales) d × (length (now weights) ≡ length (now s)) ⌝ }
-    ensures { λ r. ⌜ built t rows cols vals right kinds dims cost r (thermalBlock (path (now (s .entry)) e) (torqueOf d (now (ta .entry)) (now (tb .entry)) (now (tg .entry))) (now (weights .entry)) w (now (scales .entry)) (t .columns)) (34 * (length (now (s .entry)) + 2)) ⌝ }
+    requires { ⌜ RoomAll t (thermalRoom (length (now grid))) × Given (now grid) ends (now «torque_a») (now «torque_b») (now «torque_g») (now scales) d × (length (now thermal) ≡ length (now grid)) ⌝ }
+    ensures { λ r. ⌜ built t rows columns values right kinds dimensions cost r (thermalBlock (path (atEntry grid) ends) (torqueOf d (atEntry «torque_a») (atEntry «torque_b») (atEntry «torque_g»)) (atEntry thermal) weight (atEntry scales) (t .columns .at)) (thermalRoom (length (atEntry grid))) ⌝ }
 {
     let u = cones(
         t,
         rows,
-        cols,
-        vals,
+        columns,
+        values,
         right,
         kinds,
-        dims,
-        s,
-        e,
-        ta,
-        tb,
-        tg,
+        dimensions,
+        grid,
+        ends,
+        torque_a,
+        torque_b,
+        torque_g,
         scales,
         d,
-        Column { at: t.columns },
+        t.columns,
     );
-    costs(u, cost, s, e, weights, w)
+    costs(u, cost, grid, ends, thermal, weight)
 }

@@ -1,19 +1,20 @@
 // TotalVariationTorque: for each joint two rows at a positive end, and two for each step between moving stations.
 
-ghost use mathlib.Core.Path.{_≡_};
-ghost use mathlib.Core.List.{List, [], _∷_, _++_};
-ghost use Prim.Native.Nat.{ℕ, _+_, _-_, _*_, _^_, _<_, _≤_, min, max};
-ghost use lib.Ieee.{Float, neg};
+ghost use Prim.Native.Nat.{_+_, _-_, _*_, _^_, _<_, _≤_};
 ghost use lib.Dec.{ltb};
 ghost use lib.ListN.{length};
-ghost use Rattle.model.specs.Numbers.{at, _⊖_, _⊗_};
+ghost use Rattle.model.specs.Lent.{atEntry};
 ghost use Rattle.model.specs.Lists.{over, given};
-ghost use Rattle.model.specs.Problem.{n, m, stop, ends, flag};
+ghost use Rattle.model.specs.Problem;
+ghost use Rattle.model.specs.Problem.{n, m, stop, flag};
 ghost use Rattle.model.specs.Objectives.{torqueBlock};
+ghost use Rattle.buffers.specs.Bounds.{mostStations, mostJoints, torqueStepRoom, torqueRoom};
 ghost use Rattle.buffers.specs.Lent.{Room, RoomAll, wrote, built};
 ghost use Rattle.buffers.specs.Inputs.{path, torqueOf};
 ghost use Rattle.torque.specs.Given.{Given};
 ghost use Rattle.tv_torque.specs.Rows.{endsOf, stepsOf, stepRow, torqueBands};
+use columns::column_a;
+use columns::column_b;
 use model::Column;
 use model::Ends;
 use model::Tally;
@@ -23,14 +24,14 @@ use model::Term;
 fn end_rows(
     t: Tally,
     rows: &mut [u32],
-    cols: &mut [u32],
-    vals: &mut [f64],
+    columns: &mut [u32],
+    values: &mut [f64],
     right: &mut [f64],
-    s: &[f64],
-    e: Ends,
-    ta: &[f64],
-    tb: &[f64],
-    tg: &[f64],
+    grid: &[f64],
+    ends: Ends,
+    torque_a: &[f64],
+    torque_b: &[f64],
+    torque_g: &[f64],
     scales: &[f64],
     d: usize,
     col: Column,
@@ -38,63 +39,61 @@ fn end_rows(
     z: usize,
     i: usize,
 ) -> Tally
-    requires { ⌜ Room t 2 × Given (now s) e (now ta) (now tb) (now tg) (now scales) d × (k < length (now s)) × (z < length (now s)) × (i < d) × (col .at + 32 ≤ 2 ^ 32) ⌝ }
-    ensures { λ r. ⌜ wrote t rows cols vals right r (endsOf (now (s .entry)) e (now (ta .entry)) (now (tb .entry)) (now (tg .entry)) (now (scales .entry)) d (col .at) k z i) 2 ⌝ }
+    requires { ⌜ Room t 2 × Given (now grid) ends (now «torque_a») (now «torque_b») (now «torque_g») (now scales) d × (k < length (now grid)) × (z < length (now grid)) × (i < d) × (col .at + mostJoints ≤ 2 ^ 32) ⌝ }
+    ensures { λ r. ⌜ wrote t rows columns values right r (endsOf (atEntry grid) ends (atEntry «torque_a») (atEntry «torque_b») (atEntry «torque_g») (atEntry scales) d (col .at) k z i) 2 ⌝ }
 {
     let own = Term {
         col: Column { at: col.at + i },
         v: -1.0,
     };
-    let ca = Column { at: k };
-    let cb = Column {
-        at: s.len() - 1 + 1 + k,
-    };
-    let a = torque::scaled(ta, scales, d, k, i);
-    let b = torque::scaled(tb, scales, d, k, i);
-    let g = torque::scaled(tg, scales, d, k, i);
-    let h = torque::scaled(tg, scales, d, z, i);
+    let ca = column_a(k);
+    let cb = column_b(grid, k);
+    let a = torque::scaled(torque_a, scales, d, k, i);
+    let b = torque::scaled(torque_b, scales, d, k, i);
+    let g = torque::scaled(torque_g, scales, d, k, i);
+    let h = torque::scaled(torque_g, scales, d, z, i);
     let p = Term { col: ca, v: a };
     let q = Term { col: cb, v: b };
-    let u = buffers::row3(t, rows, cols, vals, right, g - h, p, q, own);
+    let u = buffers::row3(t, rows, columns, values, right, g - h, p, q, own);
     let p = Term { col: ca, v: -a };
     let q = Term { col: cb, v: -b };
-    buffers::row3(u, rows, cols, vals, right, h - g, p, q, own)
+    buffers::row3(u, rows, columns, values, right, h - g, p, q, own)
 }
 
 // The rows of all joints at an end.
 fn end_joints(
     t: Tally,
     rows: &mut [u32],
-    cols: &mut [u32],
-    vals: &mut [f64],
+    columns: &mut [u32],
+    values: &mut [f64],
     right: &mut [f64],
-    s: &[f64],
-    e: Ends,
-    ta: &[f64],
-    tb: &[f64],
-    tg: &[f64],
+    grid: &[f64],
+    ends: Ends,
+    torque_a: &[f64],
+    torque_b: &[f64],
+    torque_g: &[f64],
     scales: &[f64],
     d: usize,
     col: Column,
     k: usize,
     z: usize,
 ) -> Tally
-    requires { ⌜ Room t 64 × Given (now s) e (now ta) (now tb) (now tg) (now scales) d × (k < length (now s)) × (z < length (now s)) × (col .at + 32 ≤ 2 ^ 32) ⌝ }
-    ensures { λ r. ⌜ wrote t rows cols vals right r (over (endsOf (now (s .entry)) e (now (ta .entry)) (now (tb .entry)) (now (tg .entry)) (now (scales .entry)) d (col .at) k z) 0 d) 64 ⌝ }
+    requires { ⌜ Room t torqueStepRoom × Given (now grid) ends (now «torque_a») (now «torque_b») (now «torque_g») (now scales) d × (k < length (now grid)) × (z < length (now grid)) × (col .at + mostJoints ≤ 2 ^ 32) ⌝ }
+    ensures { λ r. ⌜ wrote t rows columns values right r (over (endsOf (atEntry grid) ends (atEntry «torque_a») (atEntry «torque_b») (atEntry «torque_g») (atEntry scales) d (col .at) k z) 0 d) torqueStepRoom ⌝ }
 {
     let mut u = t;
     for i in 0..d {
         u = end_rows(
             u,
             rows,
-            cols,
-            vals,
+            columns,
+            values,
             right,
-            s,
-            e,
-            ta,
-            tb,
-            tg,
+            grid,
+            ends,
+            torque_a,
+            torque_b,
+            torque_g,
             scales,
             d,
             col,
@@ -110,39 +109,39 @@ fn end_joints(
 fn start_part(
     t: Tally,
     rows: &mut [u32],
-    cols: &mut [u32],
-    vals: &mut [f64],
+    columns: &mut [u32],
+    values: &mut [f64],
     right: &mut [f64],
-    s: &[f64],
-    e: Ends,
-    ta: &[f64],
-    tb: &[f64],
-    tg: &[f64],
+    grid: &[f64],
+    ends: Ends,
+    torque_a: &[f64],
+    torque_b: &[f64],
+    torque_g: &[f64],
     scales: &[f64],
     d: usize,
     col: Column,
 ) -> Tally
-    requires { ⌜ Room t 64 × Given (now s) e (now ta) (now tb) (now tg) (now scales) d × (col .at + 32 ≤ 2 ^ 32) ⌝ }
-    ensures { λ r. ⌜ wrote t rows cols vals right r (given (ltb 0 (e .n0)) (over (endsOf (now (s .entry)) e (now (ta .entry)) (now (tb .entry)) (now (tg .entry)) (now (scales .entry)) d (col .at) (e .n0) 0) 0 d)) 64 ⌝ }
+    requires { ⌜ Room t torqueStepRoom × Given (now grid) ends (now «torque_a») (now «torque_b») (now «torque_g») (now scales) d × (col .at + mostJoints ≤ 2 ^ 32) ⌝ }
+    ensures { λ r. ⌜ wrote t rows columns values right r (given (ltb 0 (ends .n0)) (over (endsOf (atEntry grid) ends (atEntry «torque_a») (atEntry «torque_b») (atEntry «torque_g») (atEntry scales) d (col .at) (ends .n0) 0) 0 d)) torqueStepRoom ⌝ }
 {
-    if e.n0 == 0 {
+    if ends.n0 == 0 {
         return t;
     }
     end_joints(
         t,
         rows,
-        cols,
-        vals,
+        columns,
+        values,
         right,
-        s,
-        e,
-        ta,
-        tb,
-        tg,
+        grid,
+        ends,
+        torque_a,
+        torque_b,
+        torque_g,
         scales,
         d,
         col,
-        e.n0,
+        ends.n0,
         0,
     )
 }
@@ -151,43 +150,43 @@ fn start_part(
 fn end_part(
     t: Tally,
     rows: &mut [u32],
-    cols: &mut [u32],
-    vals: &mut [f64],
+    columns: &mut [u32],
+    values: &mut [f64],
     right: &mut [f64],
-    s: &[f64],
-    e: Ends,
-    ta: &[f64],
-    tb: &[f64],
-    tg: &[f64],
+    grid: &[f64],
+    ends: Ends,
+    torque_a: &[f64],
+    torque_b: &[f64],
+    torque_g: &[f64],
     scales: &[f64],
     d: usize,
     col: Column,
 ) -> Tally
-    requires { ⌜ Room t 64 × Given (now s) e (now ta) (now tb) (now tg) (now scales) d × (col .at + 64 ≤ 2 ^ 32) ⌝ }
-    ensures { λ r. ⌜ wrote t rows cols vals right r (given (ltb 0 (e .n1)) (over (endsOf (now (s .entry)) e (now (ta .entry)) (now (tb .entry)) (now (tg .entry)) (now (scales .entry)) d (col .at + d * flag (e .n0)) (stop (path (now (s .entry)) e)) (n (path (now (s .entry)) e))) 0 d)) 64 ⌝ }
+    requires { ⌜ Room t torqueStepRoom × Given (now grid) ends (now «torque_a») (now «torque_b») (now «torque_g») (now scales) d × (col .at + 2 * mostJoints ≤ 2 ^ 32) ⌝ }
+    ensures { λ r. ⌜ wrote t rows columns values right r (given (ltb 0 (ends .n1)) (over (endsOf (atEntry grid) ends (atEntry «torque_a») (atEntry «torque_b») (atEntry «torque_g») (atEntry scales) d (col .at + d * flag (ends .n0)) (stop (path (atEntry grid) ends)) (n (path (atEntry grid) ends))) 0 d)) torqueStepRoom ⌝ }
 {
-    if e.n1 == 0 {
+    if ends.n1 == 0 {
         return t;
     }
-    let last = s.len() - 1;
+    let last = grid.len() - 1;
     let own = Column {
-        at: col.at + d * numbers::flag(e.n0),
+        at: col.at + d * numbers::flag(ends.n0),
     };
     end_joints(
         t,
         rows,
-        cols,
-        vals,
+        columns,
+        values,
         right,
-        s,
-        e,
-        ta,
-        tb,
-        tg,
+        grid,
+        ends,
+        torque_a,
+        torque_b,
+        torque_g,
         scales,
         d,
         own,
-        last - e.n1,
+        last - ends.n1,
         last,
     )
 }
@@ -204,116 +203,107 @@ struct Four {
 fn step_row(
     t: Tally,
     rows: &mut [u32],
-    cols: &mut [u32],
-    vals: &mut [f64],
+    columns: &mut [u32],
+    values: &mut [f64],
     right: &mut [f64],
-    s: &[f64],
+    grid: &[f64],
     own: Column,
     k: usize,
     x: f64,
     v: Four,
 ) -> Tally
-    requires { ⌜ Room t 1 × (k + 1 < length (now s)) × (length (now s) ≤ 4097) × (own .at < 2 ^ 32) ⌝ }
-    ensures { λ r. ⌜ wrote t rows cols vals right r (stepRow (now (s .entry)) (own .at) k x (v .a) (v .a1) (v .b) (v .b1)) 1 ⌝ }
+    requires { ⌜ Room t 1 × (k + 1 < length (now grid)) × (length (now grid) ≤ mostStations) × (own .at < 2 ^ 32) ⌝ }
+    ensures { λ r. ⌜ wrote t rows columns values right r (stepRow (atEntry grid) (own .at) k x (v .a) (v .a1) (v .b) (v .b1)) 1 ⌝ }
 {
-    let nb = s.len() - 1 + 1;
-    let p = Term {
-        col: Column { at: k },
-        v: v.a,
-    };
-    let q = Term {
-        col: Column { at: k + 1 },
-        v: v.a1,
-    };
-    let y = Term {
-        col: Column { at: nb + k },
-        v: v.b,
-    };
-    let z = Term {
-        col: Column { at: nb + (k + 1) },
-        v: v.b1,
-    };
+    let a = column_a(k);
+    let a1 = column_a(k + 1);
+    let b = column_b(grid, k);
+    let b1 = column_b(grid, k + 1);
+    let p = Term { col: a, v: v.a };
+    let q = Term { col: a1, v: v.a1 };
+    let y = Term { col: b, v: v.b };
+    let z = Term { col: b1, v: v.b1 };
     let last = Term { col: own, v: -1.0 };
-    buffers::row5(t, rows, cols, vals, right, x, p, q, y, z, last)
+    buffers::row5(t, rows, columns, values, right, x, p, q, y, z, last)
 }
 
 // The two rows of joint i for the step from station k to the next.
 fn step_rows(
     t: Tally,
     rows: &mut [u32],
-    cols: &mut [u32],
-    vals: &mut [f64],
+    columns: &mut [u32],
+    values: &mut [f64],
     right: &mut [f64],
-    s: &[f64],
-    e: Ends,
-    ta: &[f64],
-    tb: &[f64],
-    tg: &[f64],
+    grid: &[f64],
+    ends: Ends,
+    torque_a: &[f64],
+    torque_b: &[f64],
+    torque_g: &[f64],
     scales: &[f64],
     d: usize,
     col: Column,
     k: usize,
     i: usize,
 ) -> Tally
-    requires { ⌜ Room t 2 × Given (now s) e (now ta) (now tb) (now tg) (now scales) d × (k + 1 < length (now s)) × (i < d) × (col .at + 32 ≤ 2 ^ 32) ⌝ }
-    ensures { λ r. ⌜ wrote t rows cols vals right r (stepsOf (now (s .entry)) e (now (ta .entry)) (now (tb .entry)) (now (tg .entry)) (now (scales .entry)) d (col .at) k i) 2 ⌝ }
+    requires { ⌜ Room t 2 × Given (now grid) ends (now «torque_a») (now «torque_b») (now «torque_g») (now scales) d × (k + 1 < length (now grid)) × (i < d) × (col .at + mostJoints ≤ 2 ^ 32) ⌝ }
+    ensures { λ r. ⌜ wrote t rows columns values right r (stepsOf (atEntry grid) ends (atEntry «torque_a») (atEntry «torque_b») (atEntry «torque_g») (atEntry scales) d (col .at) k i) 2 ⌝ }
 {
     let own = Column { at: col.at + i };
-    let a = torque::scaled(ta, scales, d, k, i);
-    let a1 = torque::scaled(ta, scales, d, k + 1, i);
-    let b = torque::scaled(tb, scales, d, k, i);
-    let b1 = torque::scaled(tb, scales, d, k + 1, i);
-    let g = torque::scaled(tg, scales, d, k, i);
-    let h = torque::scaled(tg, scales, d, k + 1, i);
+    let a = torque::scaled(torque_a, scales, d, k, i);
+    let a1 = torque::scaled(torque_a, scales, d, k + 1, i);
+    let b = torque::scaled(torque_b, scales, d, k, i);
+    let b1 = torque::scaled(torque_b, scales, d, k + 1, i);
+    let g = torque::scaled(torque_g, scales, d, k, i);
+    let h = torque::scaled(torque_g, scales, d, k + 1, i);
     let v = Four {
         a: -a,
         a1: a1,
         b: -b,
         b1: b1,
     };
-    let u = step_row(t, rows, cols, vals, right, s, own, k, h - g, v);
+    let u = step_row(t, rows, columns, values, right, grid, own, k, h - g, v);
     let v = Four {
         a: a,
         a1: -a1,
         b: b,
         b1: -b1,
     };
-    step_row(u, rows, cols, vals, right, s, own, k, g - h, v)
+    step_row(u, rows, columns, values, right, grid, own, k, g - h, v)
 }
 
 // The rows of all joints for a step.
 fn step_joints(
     t: Tally,
     rows: &mut [u32],
-    cols: &mut [u32],
-    vals: &mut [f64],
+    columns: &mut [u32],
+    values: &mut [f64],
     right: &mut [f64],
-    s: &[f64],
-    e: Ends,
-    ta: &[f64],
-    tb: &[f64],
-    tg: &[f64],
+    grid: &[f64],
+    ends: Ends,
+    torque_a: &[f64],
+    torque_b: &[f64],
+    torque_g: &[f64],
     scales: &[f64],
     d: usize,
     col: Column,
     k: usize,
 ) -> Tally
-    requires { ⌜ Room t 64 × Given (now s) e (now ta) (now tb) (now tg) (now scales) d × (k + 1 < length (now s)) × (col .at + 32 ≤ 2 ^ 32) ⌝ }
-    ensures { λ r. ⌜ wrote t rows cols vals right r (over (stepsOf (now (s .entry)) e (now (ta .entry)) (now (tb .entry)) (now (tg .entry)) (now (scales .entry)) d (col .at) k) 0 d) 64 ⌝ }
+    requires { ⌜ Room t torqueStepRoom × Given (now grid) ends (now «torque_a») (now «torque_b») (now «torque_g») (now scales) d × (k + 1 < length (now grid)) × (col .at + mostJoints ≤ 2 ^ 32) ⌝ }
+    ensures { λ r. ⌜ wrote t rows columns values right r (over (stepsOf (atEntry grid) ends (atEntry «torque_a») (atEntry «torque_b») (atEntry «torque_g») (atEntry scales) d (col .at) k) 0 d) torqueStepRoom ⌝ }
 {
     let mut u = t;
     for i in 0..d {
         u = step_rows(
             u,
             rows,
-            cols,
-            vals,
+            columns,
+            values,
             right,
-            s,
-            e,
-            ta,
-            tb,
-            tg,
+            grid,
+            ends,
+            torque_a,
+            torque_b,
+            torque_g,
             scales,
             d,
             col,
@@ -328,23 +318,23 @@ fn step_joints(
 fn steps(
     t: Tally,
     rows: &mut [u32],
-    cols: &mut [u32],
-    vals: &mut [f64],
+    columns: &mut [u32],
+    values: &mut [f64],
     right: &mut [f64],
-    s: &[f64],
-    e: Ends,
-    ta: &[f64],
-    tb: &[f64],
-    tg: &[f64],
+    grid: &[f64],
+    ends: Ends,
+    torque_a: &[f64],
+    torque_b: &[f64],
+    torque_g: &[f64],
     scales: &[f64],
     d: usize,
     col: Column,
 ) -> Tally
-    requires { ⌜ Room t (64 * length (now s)) × Given (now s) e (now ta) (now tb) (now tg) (now scales) d × (col .at + 32 * (length (now s) + 2) ≤ 2 ^ 32) ⌝ }
-    ensures { λ r. ⌜ wrote t rows cols vals right r (over (λ j. over (stepsOf (now (s .entry)) e (now (ta .entry)) (now (tb .entry)) (now (tg .entry)) (now (scales .entry)) d (col .at + d * (ends (path (now (s .entry)) e) + j)) (e .n0 + j)) 0 d) 0 (m (path (now (s .entry)) e))) (64 * length (now (s .entry))) ⌝ }
+    requires { ⌜ Room t (torqueStepRoom * length (now grid)) × Given (now grid) ends (now «torque_a») (now «torque_b») (now «torque_g») (now scales) d × (col .at + mostJoints * (length (now grid) + 2) ≤ 2 ^ 32) ⌝ }
+    ensures { λ r. ⌜ wrote t rows columns values right r (over (λ j. over (stepsOf (atEntry grid) ends (atEntry «torque_a») (atEntry «torque_b») (atEntry «torque_g») (atEntry scales) d (col .at + d * (Problem.ends (path (atEntry grid) ends) + j)) (ends .n0 + j)) 0 d) 0 (m (path (atEntry grid) ends))) (torqueStepRoom * length (atEntry grid)) ⌝ }
 {
-    let count = s.len() - 1 - e.n0 - e.n1;
-    let p = buffers::positive_ends(e);
+    let count = grid.len() - 1 - ends.n0 - ends.n1;
+    let p = buffers::positive_ends(ends);
     let mut u = t;
     for j in 0..count {
         let own = Column {
@@ -353,18 +343,18 @@ fn steps(
         u = step_joints(
             u,
             rows,
-            cols,
-            vals,
+            columns,
+            values,
             right,
-            s,
-            e,
-            ta,
-            tb,
-            tg,
+            grid,
+            ends,
+            torque_a,
+            torque_b,
+            torque_g,
             scales,
             d,
             own,
-            e.n0 + j,
+            ends.n0 + j,
         );
     }
     u
@@ -374,64 +364,106 @@ fn steps(
 fn bands(
     t: Tally,
     rows: &mut [u32],
-    cols: &mut [u32],
-    vals: &mut [f64],
+    columns: &mut [u32],
+    values: &mut [f64],
     right: &mut [f64],
-    s: &[f64],
-    e: Ends,
-    ta: &[f64],
-    tb: &[f64],
-    tg: &[f64],
+    grid: &[f64],
+    ends: Ends,
+    torque_a: &[f64],
+    torque_b: &[f64],
+    torque_g: &[f64],
     scales: &[f64],
     d: usize,
     col: Column,
 ) -> Tally
-    requires { ⌜ Room t (64 * (length (now s) + 2)) × Given (now s) e (now ta) (now tb) (now tg) (now scales) d × (col .at + 32 * (length (now s) + 2) ≤ 2 ^ 32) ⌝ }
-    ensures { λ r. ⌜ wrote t rows cols vals right r (torqueBands (path (now (s .entry)) e) (torqueOf d (now (ta .entry)) (now (tb .entry)) (now (tg .entry))) (now (scales .entry)) (col .at)) (64 * (length (now (s .entry)) + 2)) ⌝ }
+    requires { ⌜ Room t (torqueRoom (length (now grid))) × Given (now grid) ends (now «torque_a») (now «torque_b») (now «torque_g») (now scales) d × (col .at + mostJoints * (length (now grid) + 2) ≤ 2 ^ 32) ⌝ }
+    ensures { λ r. ⌜ wrote t rows columns values right r (torqueBands (path (atEntry grid) ends) (torqueOf d (atEntry «torque_a») (atEntry «torque_b») (atEntry «torque_g»)) (atEntry scales) (col .at)) (torqueRoom (length (atEntry grid))) ⌝ }
 {
-    let u = start_part(t, rows, cols, vals, right, s, e, ta, tb, tg, scales, d, col);
-    let v = end_part(u, rows, cols, vals, right, s, e, ta, tb, tg, scales, d, col);
-    steps(v, rows, cols, vals, right, s, e, ta, tb, tg, scales, d, col)
+    let u = start_part(
+        t,
+        rows,
+        columns,
+        values,
+        right,
+        grid,
+        ends,
+        torque_a,
+        torque_b,
+        torque_g,
+        scales,
+        d,
+        col,
+    );
+    let v = end_part(
+        u,
+        rows,
+        columns,
+        values,
+        right,
+        grid,
+        ends,
+        torque_a,
+        torque_b,
+        torque_g,
+        scales,
+        d,
+        col,
+    );
+    steps(
+        v,
+        rows,
+        columns,
+        values,
+        right,
+        grid,
+        ends,
+        torque_a,
+        torque_b,
+        torque_g,
+        scales,
+        d,
+        col,
+    )
 }
 
 // The block: its rows in one nonnegative cone, and the weight for each own column.
 pub fn clarabel_objective_tv_torque_copp3(
     t: Tally,
     rows: &mut [u32],
-    cols: &mut [u32],
-    vals: &mut [f64],
+    columns: &mut [u32],
+    values: &mut [f64],
     right: &mut [f64],
     kinds: &mut [u8],
-    dims: &mut [u32],
+    dimensions: &mut [u32],
     cost: &mut [f64],
-    s: &[f64],
-    e: Ends,
-    ta: &[f64],
-    tb: &[f64],
-    tg: &[f64],
+    grid: &[f64],
+    ends: Ends,
+    torque_a: &[f64],
+    torque_b: &[f64],
+    torque_g: &[f64],
     scales: &[f64],
     d: usize,
-    w: f64,
+    weight: f64,
 ) -> Tally
-    requires { ⌜ RoomAll t (64 * (length (now s) + 2)) × Given (now s) e (now ta) (now tb) (now tg) (now scales) d ⌝ }
-    ensures { λ r. ⌜ built t rows cols vals right kinds dims cost r (torqueBlock (path (now (s .entry)) e) (torqueOf d (now (ta .entry)) (now (tb .entry)) (now (tg .entry))) w (now (scales .entry)) (t .columns)) (64 * (length (now (s .entry)) + 2)) ⌝ }
+    requires { ⌜ RoomAll t (torqueRoom (length (now grid))) × Given (now grid) ends (now «torque_a») (now «torque_b») (now «torque_g») (now scales) d ⌝ }
+    ensures { λ r. ⌜ built t rows columns values right kinds dimensions cost r (torqueBlock (path (atEntry grid) ends) (torqueOf d (atEntry «torque_a») (atEntry «torque_b») (atEntry «torque_g»)) weight (atEntry scales) (t .columns .at)) (torqueRoom (length (atEntry grid))) ⌝ }
 {
-    let count = d * (buffers::positive_ends(e) + (s.len() - 1 - e.n0 - e.n1));
+    let count = d * (buffers::positive_ends(ends) + (grid.len() - 1 - ends.n0 - ends.n1));
     let u = bands(
         t,
         rows,
-        cols,
-        vals,
+        columns,
+        values,
         right,
-        s,
-        e,
-        ta,
-        tb,
-        tg,
+        grid,
+        ends,
+        torque_a,
+        torque_b,
+        torque_g,
         scales,
         d,
-        Column { at: t.columns },
+        t.columns,
     );
-    let v = buffers::put_cone(u, kinds, dims, 1, u.rows - t.rows);
-    buffers::cost_same(v, cost, w, count)
+    let v = buffers::put_cone(u, kinds, dimensions, 1, u.rows.at - t.rows.at);
+    buffers::cost_same(v, cost, weight, count)
 }

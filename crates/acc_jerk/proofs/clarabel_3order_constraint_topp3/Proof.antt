@@ -8,17 +8,17 @@ use Rattle.model.specs.Problem.{m}
 use Rattle.model.specs.Standard.{jerkRowsAt}
 use Rattle.buffers.specs.Inputs.{path}
 use Rattle.buffers.specs.Buffers.{Overs}
-use Rattle.buffers.proofs.Laws.{overs-none, overs-more, overs-all, turns, wrote-rows, wrote-cols, wrote-vals, wrote-right}
+use Rattle.buffers.proofs.Laws.{overs-none, overs-more, overs-all, turns, wrote-rows, wrote-columns, wrote-values, wrote-right}
 use Rattle.acc_jerk.specs.Tables.{jerkOf}
 use Rattle.acc_jerk.proofs.Sums.{before-next, before-within, shifted, start}
 use Rattle.acc_jerk.proofs.clarabel_3order_constraint_topp3.Statement.{statement}
 use Rattle.acc_jerk.proofs.clarabel_3order_constraint_topp3.Tie as tie
 
 abbrev Inv-loop : tie.InvT-loop
-Inv-loop rows₀ cols₀ vals₀ right₀ s e counts ja jb jc jh count from₀ u₀ i₀ rows cols vals right from u i = (i ≤ count) × (from ≡ total (take (e .n0 + i) counts)) × Overs u₀ rows₀ cols₀ vals₀ right₀ u rows cols vals right (jerkRowsAt (path s e) (jerkOf counts ja jb jc jh)) (e .n0) i 512
+Inv-loop rows₀ columns₀ values₀ right₀ grid ends jerk-rows jerk-a jerk-b jerk-c jerk-max count from₀ u₀ i₀ rows columns values right from u i = (i ≤ count) × (from ≡ total (take (ends .n0 + i) jerk-rows)) × Overs u₀ rows₀ columns₀ values₀ right₀ u rows columns values right (jerkRowsAt (path grid ends) (jerkOf jerk-rows jerk-a jerk-b jerk-c jerk-max)) (ends .n0) i 512
 
 abbrev μ-loop : tie.MeasureT-loop
-μ-loop rows₀ cols₀ vals₀ right₀ s e counts ja jb jc jh count from₀ u₀ i₀ rows cols vals right from u i = count - i
+μ-loop rows₀ columns₀ values₀ right₀ grid ends jerk-rows jerk-a jerk-b jerk-c jerk-max count from₀ u₀ i₀ rows columns values right from u i = count - i
 
 returns : tie.Need-returns Inv-loop μ-loop
 unfolding m
@@ -34,19 +34,33 @@ clarabel-3order-constraint-topp3-spec =
     (λ c. omega (arith, (c .before .before .before .before .before .before .before .before .before .before .before .pre)))
     (λ c. omega (arith, (c .before .before .before .before .before .before .before .before .before .before .before .before .pre)))
     (λ c. search turns)
-    (λ c κs. omega (arith, (c .before .before .before .before .before .before .before .before .before .before .before .before .pre), (c .before .before .before .before .before .before .before .before .before .before .before .before .good)))
-    (λ c. (omega arith, start (now (c .before .before .before .before .before .before .before .before .before .before .before .before .before .args .counts)) _ (c .before .before .before .before .before .before .before .before .before .before .before .before .before .args .e .n0) (c .offset .ensures), overs-none))
+    (λ c κs. let c12 = c .before .before .before .before .before .before .before .before .before .before .before .before in
+    omega (arith, (c12 .pre), (c12 .good)))
+    (λ c. let c13 = c .before .before .before .before .before .before .before .before .before .before .before .before .before in
+    (omega arith, start (now (c13 .args .jerk-rows)) _ (c13 .args .ends .n0) (c .offset .ensures), overs-none))
     (λ c. omega (arith, (c .before .before .before .before .before .before .before .before .before .before .before .before .before .before .before .before .pre), (c .before .loop-test)))
-    (λ c κs. let a = (c .before .before .before .before .before .before .before .before .before .before .before .before .before .before .before .before .before .before .before .before .args) in let k = a .e .n0 + (c .before .before .before .before .before .before .loop .i) in omega (arith, (c .before .before .before .before .before .before .before .before .before .before .before .before .before .before .before .before .before .before .before .before .pre), (c .before .before .before .before .before .before .loop .inv .1), (c .before .before .before .before .before .before .loop .inv .2 .wrote .moves), (c .before .before .before .before .before .loop-test), before-within (now (a .counts)) k, (c .before .before .before .before .before .before .before .before .before .before .before .before .before .before .before .before .before .before .before .before .pre) .3 k))
-    (λ c. omega (arith, (c .before .before .before .before .before .before .before .before .before .before .before .before .before .before .before .before .before .before .before .before .before .before .before .before .before .before .before .before .before .pre), (c .before .before .before .before .before .before .before .before .before .before .before .before .before .before .loop-test)))
-    (λ c. omega (arith, (c .before .before .before .before .before .before .before .before .before .before .before .before .before .before .before .before .before .before .before .before .before .before .before .before .before .before .before .before .before .before .pre), (c .before .before .before .before .before .before .before .before .before .before .before .before .before .before .before .loop-test)))
+    (λ c κs. let c5 = c .before .before .before .before .before in let c6 = c5 .before in
+    let c20 = c6 .before .before .before .before .before .before .before .before .before .before .before .before .before .before in
+    let a = (c20 .args) in let k = a .ends .n0 + (c6 .loop .i) in omega (arith, (c20 .pre), (c6 .loop .inv .1), (c6 .loop .inv .2 .wrote .moves), (c5 .loop-test), before-within (now (a .jerk-rows)) k, (c20 .pre) .3 k))
+    (λ c. let c14 = c .before .before .before .before .before .before .before .before .before .before .before .before .before .before in
+    let c29 = c14 .before .before .before .before .before .before .before .before .before .before .before .before .before .before .before in
+    omega (arith, (c29 .pre), (c14 .loop-test)))
+    (λ c. let c15 = c .before .before .before .before .before .before .before .before .before .before .before .before .before .before .before in
+    let c30 = c15 .before .before .before .before .before .before .before .before .before .before .before .before .before .before .before in
+    omega (arith, (c30 .pre), (c15 .loop-test)))
     (λ c κs. search turns)
-    (λ c. let a = (c .before .before .before .before .before .before .before .before .before .before .before .before .before .before .before .before .before .before .before .before .before .before .before .before .before .before .before .before .before .before .before .args) in omega (arith, (c .before .before .before .before .before .before .before .before .before .before .before .before .before .before .before .before .before .before .before .before .before .before .before .before .before .before .before .before .before .before .before .pre), (c .before .before .before .before .before .before .before .before .before .before .before .before .before .before .before .before .before .before .before .before .before .before .before .before .before .before .before .before .before .before .before .good), (c .before .before .before .before .before .before .before .before .before .before .before .before .before .before .before .before .before .loop .inv .1), (c .wide .ensures), before-within (now (a .counts)) (a .e .n0 + (c .before .before .before .before .before .before .before .before .before .before .before .before .before .before .before .before .before .loop .i))))
-    (λ c. omega (arith, (c .before .before .before .before .before .before .before .before .before .before .before .before .before .before .before .before .before .before .before .before .before .before .before .before .before .before .before .before .before .before .before .pre), (c .before .before .before .before .before .before .before .before .before .before .before .before .before .before .before .before .loop-test)))
+    (λ c. let c17 = c .before .before .before .before .before .before .before .before .before .before .before .before .before .before .before .before .before in
+    let c31 = c17 .before .before .before .before .before .before .before .before .before .before .before .before .before .before in
+    let a = (c31 .args) in omega (arith, (c31 .pre), (c31 .good), (c17 .loop .inv .1), (c .wide .ensures), before-within (now (a .jerk-rows)) (a .ends .n0 + (c17 .loop .i))))
+    (λ c. let c16 = c .before .before .before .before .before .before .before .before .before .before .before .before .before .before .before .before in
+    let c31 = c16 .before .before .before .before .before .before .before .before .before .before .before .before .before .before .before in
+    omega (arith, (c31 .pre), (c16 .loop-test)))
     (λ c. omega (arith, (c .before .before .before .before .before .before .before .before .before .before .before .before .before .before .before .before .loop-test)))
-    (λ c. let a = (c .before .before .before .before .before .before .before .before .before .before .before .before .before .before .before .before .before .before .before .before .before .before .before .before .before .before .before .before .before .before .before .args) in (omega (arith, (c .before .before .before .before .before .before .before .before .before .before .before .before .before .before .before .before .loop-test)), shifted (now (a .counts)) _ (a .e .n0) (c .before .before .before .before .before .before .before .before .before .before .before .before .before .before .before .before .before .loop .i) (omega (arith, (c .before .before .before .before .before .before .before .before .before .before .before .before .before .before .before .before .before .loop .inv .1), (c .wide .ensures), before-next (now (a .counts)) (a .e .n0 + (c .before .before .before .before .before .before .before .before .before .before .before .before .before .before .before .before .before .loop .i)) (omega (arith, (c .before .before .before .before .before .before .before .before .before .before .before .before .before .before .before .before .before .before .before .before .before .before .before .before .before .before .before .before .before .before .before .pre), (c .before .before .before .before .before .before .before .before .before .before .before .before .before .before .before .before .loop-test))))), overs-more ((c .before .before .before .before .before .before .before .before .before .before .before .before .before .before .before .before .before .loop .inv) .2) (c .before .before .before .before .before .before .before .before .before .before .jerk-at .ensures)))
+    (λ c. let c10 = c .before .before .before .before .before .before .before .before .before .before in let c16 = c10 .before .before .before .before .before .before in
+    let c17 = c16 .before in let c31 = c17 .before .before .before .before .before .before .before .before .before .before .before .before .before .before in
+    let a = (c31 .args) in (omega (arith, (c16 .loop-test)), shifted (now (a .jerk-rows)) _ (a .ends .n0) (c17 .loop .i) (omega (arith, (c17 .loop .inv .1), (c .wide .ensures), before-next (now (a .jerk-rows)) (a .ends .n0 + (c17 .loop .i)) (omega (arith, (c31 .pre), (c16 .loop-test))))), overs-more ((c17 .loop .inv) .2) (c10 .jerk-at .ensures)))
     (λ c. wrote-rows ((c .before .loop .inv .2 .wrote)))
-    (λ c. wrote-cols ((c .before .loop .inv .2 .wrote)))
-    (λ c. wrote-vals ((c .before .loop .inv .2 .wrote)))
+    (λ c. wrote-columns ((c .before .loop .inv .2 .wrote)))
+    (λ c. wrote-values ((c .before .loop .inv .2 .wrote)))
     (λ c. wrote-right ((c .before .loop .inv .2 .wrote)))
     returns)

@@ -9,10 +9,10 @@ use Rattle.acc_jerk.proofs.column_jerk.Statement.{statement}
 use Rattle.acc_jerk.proofs.column_jerk.Tie as tie
 
 abbrev Inv-loop : tie.InvT-loop
-Inv-loop rows₀ cols₀ vals₀ row col form jb jc p r u₀ count i₀ rows cols vals u i = (i ≤ count) × Fills u₀ rows₀ cols₀ vals₀ u rows cols vals (row .at) (λ j. cell (col .at) (jerkValue form (at jb (p .from + j)) (at jc (p .from + j)) r)) i
+Inv-loop rows₀ columns₀ values₀ row col form jerk-b jerk-c p r u₀ count i₀ rows columns values u i = (i ≤ count) × Fills u₀ rows₀ columns₀ values₀ u rows columns values (row .at) (λ j. cell (col .at) (jerkValue form (at jerk-b (p .from + j)) (at jerk-c (p .from + j)) r)) i
 
 abbrev μ-loop : tie.MeasureT-loop
-μ-loop rows₀ cols₀ vals₀ row col form jb jc p r u₀ count i₀ rows cols vals u i = count - i
+μ-loop rows₀ columns₀ values₀ row col form jerk-b jerk-c p r u₀ count i₀ rows columns values u i = count - i
 
 pub column-jerk-spec : {M : Type 1} → statement M
 column-jerk-spec =
@@ -31,7 +31,9 @@ column-jerk-spec =
     (λ c κs. search stage)
     (λ c. search stage)
     (λ c. search stage)
-    (λ c. (omega (arith, (c .before .before .before .before .before .before .before .before .before .before .before .before .before .before .before .loop-test)), fills-more ((c .before .before .before .before .before .before .before .before .before .before .before .before .before .before .before .before .loop .inv) .1) (c .before .before .before .before .before .before .put .ensures) (c .before .before .before .before .before .before .before .before .before .before .before .jerk-value .ensures)))
+    (λ c. let c6 = c .before .before .before .before .before .before in let c11 = c6 .before .before .before .before .before in
+    let c15 = c11 .before .before .before .before in let c16 = c15 .before in
+    (omega (arith, (c15 .loop-test)), fills-more ((c16 .loop .inv) .1) (c6 .put .ensures) (c11 .jerk-value .ensures)))
     (λ c. search stage)
     (λ c. search stage)
     (λ c. search stage)

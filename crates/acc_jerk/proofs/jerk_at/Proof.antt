@@ -7,14 +7,19 @@ use Rattle.acc_jerk.proofs.jerk_at.Tie as tie
 
 returns : tie.Need-returns
 unfolding jerkRowsAt
-returns c = wrote-then (c .before .before .before .before .before .before .before .before .before .before .before .before .before .before .before .before .before .before .before .before .before .backward .ensures) (c .before .before .before .before .before .before .before .before .forward .ensures)
+returns c =
+    let c8 = c .before .before .before .before .before .before .before .before in
+    let c21 = c8 .before .before .before .before .before .before .before .before .before .before .before .before .before in
+    wrote-then (c21 .backward .ensures) (c8 .forward .ensures)
 
 pub jerk-at-spec : {M : Type 1} → statement M
 jerk-at-spec =
     tie.close
     (tie.spec
     (λ c κs. search needs)
-    (λ c κs. omega (arith, (c .before .before .before .before .before .before .before .before .before .before .before .before .before .before .before .before .before .before .before .before .before .before .before .before .before .before .before .pre), (c .before .before .before .before .before .before .before .before .before .before .before .before .backward .ensures .moves)))
+    (λ c κs. let c12 = c .before .before .before .before .before .before .before .before .before .before .before .before in
+    let c27 = c12 .before .before .before .before .before .before .before .before .before .before .before .before .before .before .before in
+    omega (arith, (c27 .pre), (c12 .backward .ensures .moves)))
     (λ c. search needs)
     (λ c. search needs)
     (λ c. search needs)

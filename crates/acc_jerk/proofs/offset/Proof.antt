@@ -25,8 +25,10 @@ offset-spec =
     (λ c. search needs)
     (λ c. search needs)
     (λ c κs. search needs)
-    (λ c. omega (arith, (c .before .before .before .before .before .pre), (c .before .before .before .loop .inv .1), (c .wide .ensures), before-within (now (c .before .before .before .before .before .args .counts)) (c .before .before .before .loop .i)))
+    (λ c. let c3 = c .before .before .before in let c5 = c3 .before .before in
+    omega (arith, (c5 .pre), (c3 .loop .inv .1), (c .wide .ensures), before-within (now (c5 .args .counts)) (c3 .loop .i)))
     (λ c. search needs)
     (λ c. search needs)
-    (λ c. (omega (arith, (c .before .before .loop-test)), omega (arith, (c .before .before .before .loop .inv .1), (c .wide .ensures), before-next (now (c .before .before .before .before .before .args .counts)) (c .before .before .before .loop .i) (omega (arith, (c .before .before .before .before .before .pre), (c .before .before .loop-test))))))
+    (λ c. let c2 = c .before .before in let c3 = c2 .before in let c5 = c3 .before .before in
+    (omega (arith, (c2 .loop-test)), omega (arith, (c3 .loop .inv .1), (c .wide .ensures), before-next (now (c5 .args .counts)) (c3 .loop .i) (omega (arith, (c5 .pre), (c2 .loop-test))))))
     (λ c. same-place (now (c .before .before .before .args .counts)) ((c .before .loop .inv) .1) ((c .before .loop .inv) .0) (c .loop-test .left)))

@@ -4,7 +4,8 @@ use Rattle.assembly.proofs.room_and_finite.Tie as tie
 
 returns : tie.Need-returns
 returns c =
-    rw (← (c .before .room .ensures), ← (c .before .before .before .before .refuse-if .ensures), ← (c .before .before .before .refuse-if2 .ensures), ← (c .before .before .first-of .ensures)) (c .first-of2 .ensures)
+    let c1 = c .before in let c2 = c1 .before in let c3 = c2 .before in let c4 = c3 .before in
+    rw (← (c1 .room .ensures), ← (c4 .refuse-if .ensures), ← (c3 .refuse-if2 .ensures), ← (c2 .first-of .ensures)) (c .first-of2 .ensures)
 
 pub room-and-finite-spec : {M : Type 1} → statement M
 room-and-finite-spec =

@@ -8,10 +8,10 @@ use Rattle.buffers.proofs.diagonal_same.Statement.{statement}
 use Rattle.buffers.proofs.diagonal_same.Tie as tie
 
 abbrev Inv-loop : tie.InvT-loop
-Inv-loop rows₀ cols₀ vals₀ row col x count u₀ i₀ rows cols vals u i = (i ≤ count) × Fills u₀ rows₀ cols₀ vals₀ u rows cols vals (row .at) (λ j. cell (col .at + j) x) i
+Inv-loop rows₀ columns₀ values₀ row col x count u₀ i₀ rows columns values u i = (i ≤ count) × Fills u₀ rows₀ columns₀ values₀ u rows columns values (row .at) (λ j. cell (col .at + j) x) i
 
 abbrev μ-loop : tie.MeasureT-loop
-μ-loop rows₀ cols₀ vals₀ row col x count u₀ i₀ rows cols vals u i = count - i
+μ-loop rows₀ columns₀ values₀ row col x count u₀ i₀ rows columns values u i = count - i
 
 pub diagonal-same-spec : {M : Type 1} → statement M
 diagonal-same-spec =
@@ -25,7 +25,8 @@ diagonal-same-spec =
     (λ c κs. search stage)
     (λ c. search stage)
     (λ c. search stage)
-    (λ c. (omega arith, fills-more ((c .before .before .before .before .before .before .before .before .before .before .before .before .before .loop .inv) .1) (c .before .before .before .before .before .before .put .ensures) refl))
+    (λ c. let c6 = c .before .before .before .before .before .before in let c13 = c6 .before .before .before .before .before .before .before in
+    (omega arith, fills-more ((c13 .loop .inv) .1) (c6 .put .ensures) refl))
     (λ c. search stage)
     (λ c. search stage)
     (λ c. search stage)

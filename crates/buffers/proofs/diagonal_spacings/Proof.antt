@@ -8,10 +8,10 @@ use Rattle.buffers.proofs.diagonal_spacings.Statement.{statement}
 use Rattle.buffers.proofs.diagonal_spacings.Tie as tie
 
 abbrev Inv-loop : tie.InvT-loop
-Inv-loop rows₀ cols₀ vals₀ row col s k count u₀ i₀ rows cols vals u i = (i ≤ count) × Fills u₀ rows₀ cols₀ vals₀ u rows cols vals (row .at) (λ j. cell (col .at + j) (at s (k + j + 1) ⊖ at s (k + j))) i
+Inv-loop rows₀ columns₀ values₀ row col grid k count u₀ i₀ rows columns values u i = (i ≤ count) × Fills u₀ rows₀ columns₀ values₀ u rows columns values (row .at) (λ j. cell (col .at + j) (at grid (k + j + 1) ⊖ at grid (k + j))) i
 
 abbrev μ-loop : tie.MeasureT-loop
-μ-loop rows₀ cols₀ vals₀ row col s k count u₀ i₀ rows cols vals u i = count - i
+μ-loop rows₀ columns₀ values₀ row col grid k count u₀ i₀ rows columns values u i = count - i
 
 pub diagonal-spacings-spec : {M : Type 1} → statement M
 diagonal-spacings-spec =
@@ -27,7 +27,8 @@ diagonal-spacings-spec =
     (λ c κs. search stage)
     (λ c. search stage)
     (λ c. search stage)
-    (λ c. (omega arith, fills-more ((c .before .before .before .before .before .before .before .before .before .before .before .before .before .before .loop .inv) .1) (c .before .before .before .before .before .before .put .ensures) (c .before .before .before .before .before .before .before .before .before .before .before .spacing .ensures)))
+    (λ c. let c6 = c .before .before .before .before .before .before in let c11 = c6 .before .before .before .before .before in let c14 = c11 .before .before .before in
+    (omega arith, fills-more ((c14 .loop .inv) .1) (c6 .put .ensures) (c11 .spacing .ensures)))
     (λ c. search stage)
     (λ c. search stage)
     (λ c. search stage)

@@ -7,14 +7,16 @@ use Rattle.buffers.proofs.positive.Statement.{statement}
 use Rattle.buffers.proofs.positive.Tie as tie
 
 abbrev Inv-loop : tie.InvT-loop
-Inv-loop rows₀ cols₀ vals₀ right₀ from count u₀ i₀ rows cols vals right u i = (i ≤ count) × Lists u₀ rows₀ cols₀ vals₀ right₀ u rows cols vals right positiveRow (from .at) i 1
+Inv-loop rows₀ columns₀ values₀ right₀ from count u₀ i₀ rows columns values right u i = (i ≤ count) × Lists u₀ rows₀ columns₀ values₀ right₀ u rows columns values right positiveRow (from .at) i 1
 
 abbrev μ-loop : tie.MeasureT-loop
-μ-loop rows₀ cols₀ vals₀ right₀ from count u₀ i₀ rows cols vals right u i = count - i
+μ-loop rows₀ columns₀ values₀ right₀ from count u₀ i₀ rows columns values right u i = count - i
 
 loop-again : tie.Need-loop-again Inv-loop μ-loop
 unfolding positiveRow
-loop-again c = (omega arith, lists-more ((c .before .before .before .before .before .before .before .before .before .before .before .before .before .before .before .loop .inv) .1) (c .before .before .before .before .before .before .before .before .row1 .ensures))
+loop-again c =
+    let c8 = c .before .before .before .before .before .before .before .before in let c15 = c8 .before .before .before .before .before .before .before in
+    (omega arith, lists-more ((c15 .loop .inv) .1) (c8 .row1 .ensures))
 
 pub positive-spec : {M : Type 1} → statement M
 positive-spec =

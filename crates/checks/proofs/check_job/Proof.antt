@@ -20,8 +20,10 @@ check-job-spec =
     (λ c κs. search needs)
     (λ c. search needs)
     (λ c. search needs)
-    (λ c. pass (c .before .before .before .before .before .check-boundary .ensures) (c .before .before .before .enum-told .given .1) (stop _ (c .before .before .check-grid .ensures) (c .enum-told4 .given .1)))
+    (λ c. let c2 = c .before .before in let c3 = c2 .before in let c5 = c3 .before .before in
+    pass (c5 .check-boundary .ensures) (c3 .enum-told .given .1) (stop _ (c2 .check-grid .ensures) (c .enum-told4 .given .1)))
     (λ c. omega (arith, grid-within _ (sym (c .before .before .check-grid .ensures) ∙ (c .enum-told3 .given .1))))
     (λ c. search needs)
     (λ c κs. search needs)
-    (λ c. pass (c .before .before .before .before .before .before .check-boundary .ensures) (c .before .before .before .before .enum-told .given .1) (pass (c .before .before .before .check-grid .ensures) (c .before .enum-told3 .given .1) ((c .check-setup .ensures)))))
+    (λ c. let c1 = c .before in let c3 = c1 .before .before in let c4 = c3 .before in let c6 = c4 .before .before in
+    pass (c6 .check-boundary .ensures) (c4 .enum-told .given .1) (pass (c3 .check-grid .ensures) (c1 .enum-told3 .given .1) ((c .check-setup .ensures)))))

@@ -21,7 +21,9 @@ returns-3 c = rw (c .before .before .o2 .given .1) (c .check-scaled2 .ensures)
 
 returns-4 : tie.Need-returns-4
 unfolding listsRefusal
-returns-4 c = rw (c .before .before .before .before .o3 .given .1) (both (c .first-of .ensures) (c .before .before .check-list .ensures) (c .before .check-list2 .ensures))
+returns-4 c =
+    let c1 = c .before in let c2 = c1 .before in let c4 = c2 .before .before in
+    rw (c4 .o3 .given .1) (both (c .first-of .ensures) (c2 .check-list .ensures) (c1 .check-list2 .ensures))
 
 pub check-lists-spec : {M : Type 1} → statement M
 check-lists-spec =

@@ -16,6 +16,8 @@ check-objective-spec =
     (λ c κs. search needs)
     enum-told
     (λ c. search needs)
-    (λ c. stop _ ((c .before .before .refuse-if .ensures) ∙ rw ((c .before .before .before .is-unfit .ensures), (c .before .before .before .before .weight-of .ensures))) (c .enum-told2 .given .1))
+    (λ c. let c2 = c .before .before in let c3 = c2 .before in let c4 = c3 .before in
+    stop _ ((c2 .refuse-if .ensures) ∙ rw ((c3 .is-unfit .ensures), (c4 .weight-of .ensures))) (c .enum-told2 .given .1))
     (λ c κs. search needs)
-    (λ c. pass ((c .before .before .before .refuse-if .ensures) ∙ rw ((c .before .before .before .before .is-unfit .ensures), (c .before .before .before .before .before .weight-of .ensures))) (c .before .enum-told .given .1) ((c .check-lists .ensures))))
+    (λ c. let c1 = c .before in let c3 = c1 .before .before in let c4 = c3 .before in let c5 = c4 .before in
+    pass ((c3 .refuse-if .ensures) ∙ rw ((c4 .is-unfit .ensures), (c5 .weight-of .ensures))) (c1 .enum-told .given .1) ((c .check-lists .ensures))))

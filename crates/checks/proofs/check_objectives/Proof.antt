@@ -30,8 +30,11 @@ check-objectives-spec =
     (λ c κs. search needs)
     enum-told
     (λ c. search needs)
-    (λ c. refused _ _ _ _ _ (omega (arith, (c .before .before .before .before .before .before .before .good), (c .before .before .before .before .before .before .before .pre))) _ (c .before .before .before .before .before .loop .inv .1) (c .before .before .before .before .loop-test .taken) (c .before .before .check-objective .ensures) (c .enum-told2 .given .1))
+    (λ c. let c2 = c .before .before in let c4 = c2 .before .before in let c5 = c4 .before in let c7 = c5 .before .before in
+    refused _ _ _ _ _ (omega (arith, (c7 .good), (c7 .pre))) _ (c5 .loop .inv .1) (c4 .loop-test .taken) (c2 .check-objective .ensures) (c .enum-told2 .given .1))
     (λ c. search needs)
     (λ c. search needs)
-    (λ c. (search needs, passed _ _ _ _ _ (omega (arith, (c .before .before .before .before .before .before .before .good), (c .before .before .before .before .before .before .before .pre))) _ (c .before .before .before .before .before .loop .inv .1) (c .before .before .before .before .loop-test .taken) (c .before .before .check-objective .ensures) (c .enum-told .given .1)))
-    (λ c. all-passed _ _ _ _ _ (omega (arith, (c .before .before .before .good), (c .before .before .before .pre))) _ (c .before .loop .inv .1) (c .loop-test .left)))
+    (λ c. let c2 = c .before .before in let c4 = c2 .before .before in let c5 = c4 .before in let c7 = c5 .before .before in
+    (search needs, passed _ _ _ _ _ (omega (arith, (c7 .good), (c7 .pre))) _ (c5 .loop .inv .1) (c4 .loop-test .taken) (c2 .check-objective .ensures) (c .enum-told .given .1)))
+    (λ c. let c1 = c .before in let c3 = c1 .before .before in
+    all-passed _ _ _ _ _ (omega (arith, (c3 .good), (c3 .pre))) _ (c1 .loop .inv .1) (c .loop-test .left)))

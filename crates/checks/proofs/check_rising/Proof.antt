@@ -28,8 +28,9 @@ check-rising-spec =
     (λ c. search needs)
     (λ c. search needs)
     (λ c. search needs)
-    (λ c. found _ _ _ _ _ _ (c .before .before .before .before .loop .inv .1) (c .before .before .before .loop-test .taken) (c .if1 .taken))
+    (λ c. let c3 = c .before .before .before in let c4 = c3 .before in found _ _ _ _ _ _ (c4 .loop .inv .1) (c3 .loop-test .taken) (c .if1 .taken))
     (λ c. search needs)
     (λ c. search needs)
-    (λ c. (search needs, go-on _ _ _ _ _ _ (c .before .before .before .before .loop .inv .1) (c .before .before .before .loop-test .taken) (c .if1 .left)))
+    (λ c. let c3 = c .before .before .before in let c4 = c3 .before in
+    (search needs, go-on _ _ _ _ _ _ (c4 .loop .inv .1) (c3 .loop-test .taken) (c .if1 .left)))
     (λ c. ended _ _ _ _ _ _ (c .before .loop .inv .1) (c .loop-test .left)))

@@ -27,8 +27,10 @@ check-scales-spec =
     (λ c. search needs)
     (λ c. search needs)
     (λ c κs. search needs)
-    (λ c. let a = (c .before .before .before .before .before .before .args) in found _ _ _ _ _ _ (c .before .before .before .before .loop .inv) (c .before .before .before .loop-test .taken) (ap unfit (at-part (now (a .pool)) (a .start) (a .len) (c .before .before .before .before .loop .j) (c .before .before .before .loop-test .taken)) ∙ sym (c .before .is-unfit .ensures) ∙ (c .if1 .taken)))
+    (λ c. let c1 = c .before in let c3 = c1 .before .before in let c4 = c3 .before in let c6 = c4 .before .before in
+    let a = (c6 .args) in found _ _ _ _ _ _ (c4 .loop .inv) (c3 .loop-test .taken) (ap unfit (at-part (now (a .pool)) (a .start) (a .len) (c4 .loop .j) (c3 .loop-test .taken)) ∙ sym (c1 .is-unfit .ensures) ∙ (c .if1 .taken)))
     (λ c. search needs)
     (λ c. search needs)
-    (λ c. let a = (c .before .before .before .before .before .before .args) in go-on _ _ _ _ _ _ (c .before .before .before .before .loop .inv) (c .before .before .before .loop-test .taken) (ap unfit (at-part (now (a .pool)) (a .start) (a .len) (c .before .before .before .before .loop .j) (c .before .before .before .loop-test .taken)) ∙ sym (c .before .is-unfit .ensures) ∙ (c .if1 .left)))
+    (λ c. let c1 = c .before in let c3 = c1 .before .before in let c4 = c3 .before in let c6 = c4 .before .before in
+    let a = (c6 .args) in go-on _ _ _ _ _ _ (c4 .loop .inv) (c3 .loop-test .taken) (ap unfit (at-part (now (a .pool)) (a .start) (a .len) (c4 .loop .j) (c3 .loop-test .taken)) ∙ sym (c1 .is-unfit .ensures) ∙ (c .if1 .left)))
     (λ c. ended _ _ _ _ _ _ (c .before .loop .inv) (c .loop-test .left)))

@@ -19,7 +19,9 @@ check-standard-lengths-spec =
     (λ c κs. search needs)
     (λ c. search needs)
     (λ c. search needs)
-    (λ c. pass (c .before .before .before .before .before .before .check-table .ensures) (c .before .before .before .before .enum-told .given .1) (stop _ ((c .before .before .check-acc-lengths .ensures) ∙ rw (c .before .before .before .total-rows .ensures)) (c .enum-told4 .given .1)))
+    (λ c. let c2 = c .before .before in let c3 = c2 .before in let c4 = c3 .before in let c6 = c4 .before .before in
+    pass (c6 .check-table .ensures) (c4 .enum-told .given .1) (stop _ ((c2 .check-acc-lengths .ensures) ∙ rw (c3 .total-rows .ensures)) (c .enum-told4 .given .1)))
     (λ c κs. search needs)
     (λ c κs. search needs)
-    (λ c. pass (c .before .before .before .before .before .before .before .before .check-table .ensures) (c .before .before .before .before .before .before .enum-told .given .1) (pass ((c .before .before .before .before .check-acc-lengths .ensures) ∙ rw (c .before .before .before .before .before .total-rows .ensures)) (c .before .before .enum-told3 .given .1) (((c .check-jerk-lengths .ensures) ∙ rw (c .before .total-rows2 .ensures))))))
+    (λ c. let c1 = c .before in let c2 = c1 .before in let c4 = c2 .before .before in let c5 = c4 .before in let c6 = c5 .before in let c8 = c6 .before .before in
+    pass (c8 .check-table .ensures) (c6 .enum-told .given .1) (pass ((c4 .check-acc-lengths .ensures) ∙ rw (c5 .total-rows .ensures)) (c2 .enum-told3 .given .1) (((c .check-jerk-lengths .ensures) ∙ rw (c1 .total-rows2 .ensures))))))

@@ -10,7 +10,9 @@ use Rattle.checks.proofs.kinds_of.Statement.{statement}
 use Rattle.checks.proofs.kinds_of.Tie as tie
 
 abbrev Inv-loop : tie.InvT-loop
-Inv-loop count objectives thermal₀ torque₀ linear₀ i₀ thermal torque linear i = (i ≤ count) × (some isThermal (take count objectives) ≡ (thermal || some isThermal (drop i (take count objectives)))) × (some isTorque (take count objectives) ≡ (torque || some isTorque (drop i (take count objectives)))) × (some isLinear (take count objectives) ≡ (linear || some isLinear (drop i (take count objectives))))
+Inv-loop count objectives thermal₀ torque₀ linear₀ i₀ thermal torque linear i =
+    (i ≤ count) × (some isThermal (take count objectives) ≡ (thermal || some isThermal (drop i (take count objectives)))) × (some isTorque (take count objectives) ≡ (torque || some isTorque (drop i (take count objectives)))) × (some isLinear
+    (take count objectives) ≡ (linear || some isLinear (drop i (take count objectives))))
 
 abbrev μ-loop : tie.MeasureT-loop
 μ-loop count objectives thermal₀ torque₀ linear₀ i₀ thermal torque linear i = count - i
@@ -29,5 +31,11 @@ kinds-of-spec =
     (λ c κs. search needs)
     (λ c. search needs)
     (λ c. search needs)
-    (λ c. (search needs, some-more _ _ _ (omega (arith, (c .before .before .before .before .before .before .good), (c .before .before .before .before .before .before .pre))) _ (c .before .before .before .before .before .loop .thermal) (c .before .before .before .before .before .loop .inv .1) (c .before .before .before .before .loop-test .taken) (c .before .before .is-thermal .ensures), some-more _ _ _ (omega (arith, (c .before .before .before .before .before .before .good), (c .before .before .before .before .before .before .pre))) _ (c .before .before .before .before .before .loop .torque) (c .before .before .before .before .before .loop .inv .2) (c .before .before .before .before .loop-test .taken) (c .before .is-torque .ensures), some-more _ _ _ (omega (arith, (c .before .before .before .before .before .before .good), (c .before .before .before .before .before .before .pre))) _ (c .before .before .before .before .before .loop .linear) (c .before .before .before .before .before .loop .inv .3) (c .before .before .before .before .loop-test .taken) (c .is-linear .ensures)))
-    (λ c. (some-all _ _ _ (omega (arith, (c .before .before .good), (c .before .before .pre))) _ (c .before .loop .thermal) (c .before .loop .inv .1) (c .loop-test .left), some-all _ _ _ (omega (arith, (c .before .before .good), (c .before .before .pre))) _ (c .before .loop .torque) (c .before .loop .inv .2) (c .loop-test .left), some-all _ _ _ (omega (arith, (c .before .before .good), (c .before .before .pre))) _ (c .before .loop .linear) (c .before .loop .inv .3) (c .loop-test .left))))
+    (λ c. let c1 = c .before in let c2 = c1 .before in let c4 = c2 .before .before in let c5 = c4 .before in let c6 = c5 .before in (
+      search needs,
+      some-more _ _ _ (omega (arith, (c6 .good), (c6 .pre))) _ (c5 .loop .thermal) (c5 .loop .inv .1) (c4 .loop-test .taken) (c2 .is-thermal .ensures),
+      some-more _ _ _ (omega (arith, (c6 .good), (c6 .pre))) _ (c5 .loop .torque) (c5 .loop .inv .2) (c4 .loop-test .taken) (c1 .is-torque .ensures),
+      some-more _ _ _ (omega (arith, (c6 .good), (c6 .pre))) _ (c5 .loop .linear) (c5 .loop .inv .3) (c4 .loop-test .taken) (c .is-linear .ensures),
+    ))
+    (λ c. let c1 = c .before in let c2 = c1 .before in
+    (some-all _ _ _ (omega (arith, (c2 .good), (c2 .pre))) _ (c1 .loop .thermal) (c1 .loop .inv .1) (c .loop-test .left), some-all _ _ _ (omega (arith, (c2 .good), (c2 .pre))) _ (c1 .loop .torque) (c1 .loop .inv .2) (c .loop-test .left), some-all _ _ _ (omega (arith, (c2 .good), (c2 .pre))) _ (c1 .loop .linear) (c1 .loop .inv .3) (c .loop-test .left))))

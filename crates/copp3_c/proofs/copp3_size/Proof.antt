@@ -14,8 +14,9 @@ asked-2 c κs = sizing-asked _ (c .size .result) (c .size .ensures)
 
 returns-2 : tie.Need-returns-2
 returns-2 c =
-    size-told _ (c .before .before .before .before .before .kind-check .ensures) (c .before .size .result) (c .before .before .before .enum-told .given .1)
-    (rw (c .before .before .objectives-of .ensures) at (c .before .size .ensures)) (c .answer-record2 .ensures)
+    let c1 = c .before in let c2 = c1 .before in let c3 = c2 .before in let c5 = c3 .before .before in
+    size-told _ (c5 .kind-check .ensures) (c1 .size .result) (c3 .enum-told .given .1)
+    (rw (c2 .objectives-of .ensures) at (c1 .size .ensures)) (c .answer-record2 .ensures)
 
 pub copp3-size-spec : {M : Type 1} → statement M
 copp3-size-spec =

@@ -1,11 +1,14 @@
 use Rattle.model.specs.Standard.{stationaryRow}
+use Rattle.columns.proofs.Cells.{row2-at}
 use borrow.Author.Needs.{needs}
 use Rattle.dynamic.proofs.clarabel_dynamic_stationary_topp3.Statement.{statement}
 use Rattle.dynamic.proofs.clarabel_dynamic_stationary_topp3.Tie as tie
 
 returns : tie.Need-returns
 unfolding stationaryRow
-returns c = (c .before .before .before .before .before .before .before .before .row2 .ensures)
+returns c =
+    let c8 = c .before .before .before .before .before .before .before .before in let c13 = c8 .before .before .before .before .before in let c14 = c13 .before in
+    row2-at (c8 .row2 .ensures) (c14 .column-a .ensures) (c13 .column-b .ensures)
 
 pub clarabel-dynamic-stationary-topp3-spec : {M : Type 1} → statement M
 clarabel-dynamic-stationary-topp3-spec =
@@ -15,9 +18,8 @@ clarabel-dynamic-stationary-topp3-spec =
     (λ c. search needs)
     (λ c. search needs)
     (λ c. search needs)
-    (λ c. search needs)
-    (λ c. search needs)
-    (λ c. search needs)
+    (λ c κs. search needs)
+    (λ c κs. search needs)
     (λ c κs. search needs)
     (λ c. search needs)
     (λ c. search needs)

@@ -8,13 +8,16 @@ use Rattle.dynamic.proofs.end_row.Tie as tie
 
 returns-2 : tie.Need-returns-2
 unfolding stop
-returns-2 c = rw (lt-ltb 0 (c .before .before .before .before .before .before .before .before .before .before .before .before .before .before .before .before .before .before .before .before .before .args .e .n1) (omega (arith, (c .before .before .before .before .before .before .before .before .before .before .before .before .before .before .if1 .left)))) (c .before .before .before .before .before .before .before .before .clarabel-dynamic-stationary-topp3 .ensures)
+returns-2 c =
+    let c8 = c .before .before .before .before .before .before .before .before in let c14 = c8 .before .before .before .before .before .before in
+    let c21 = c14 .before .before .before .before .before .before .before in
+    rw (lt-ltb 0 (c21 .args .ends .n1) (omega (arith, (c14 .if1 .left)))) (c8 .clarabel-dynamic-stationary-topp3 .ensures)
 
 pub end-row-spec : {M : Type 1} → statement M
 end-row-spec =
     tie.close
     (tie.spec
-    (λ c. rw (le-ltb 0 (c .before .before .before .before .before .before .before .args .e .n1) (omega (arith, c .if1 .taken))) wrote-skip)
+    (λ c. rw (le-ltb 0 (c .before .before .before .before .before .before .before .args .ends .n1) (omega (arith, c .if1 .taken))) wrote-skip)
     (λ c. search needs)
     (λ c. search needs)
     (λ c κs. search needs)

@@ -14,4 +14,5 @@ end-joint-spec =
     (λ c κs. search needs)
     (λ c κs. search needs)
     (λ c κs. search needs)
-    (λ c. rw (← (c .before .before .before .before .before .before .scaled .ensures), ← (c .before .before .before .before .before .scaled2 .ensures), ← (c .before .before .before .before .scaled3 .ensures), ← (c .before .before .before .scaled4 .ensures), ← (c .before .before .both-finite .ensures), ← (c .before .both-finite2 .ensures)) (c .both .ensures)))
+    (λ c. let c1 = c .before in let c2 = c1 .before in let c3 = c2 .before in let c4 = c3 .before in let c5 = c4 .before in let c6 = c5 .before in
+    rw (← (c6 .scaled .ensures), ← (c5 .scaled2 .ensures), ← (c4 .scaled3 .ensures), ← (c3 .scaled4 .ensures), ← (c2 .both-finite .ensures), ← (c1 .both-finite2 .ensures)) (c .both .ensures)))

@@ -10,10 +10,10 @@ use Rattle.finite_objectives.proofs.end_joints.Statement.{statement}
 use Rattle.finite_objectives.proofs.end_joints.Tie as tie
 
 abbrev Inv-loop : tie.InvT-loop
-Inv-loop ta tb tg scales d k z n ok₀ i₀ ok i = (i ≤ d) × Each ok (endTest (torqueOf d ta tb tg) scales k z) 0 i
+Inv-loop torque-a torque-b torque-g scales d k z stationary ok₀ i₀ ok i = (i ≤ d) × Each ok (endTest (torqueOf d torque-a torque-b torque-g) scales k z) 0 i
 
 abbrev μ-loop : tie.MeasureT-loop
-μ-loop ta tb tg scales d k z n ok₀ i₀ ok i = d - i
+μ-loop torque-a torque-b torque-g scales d k z stationary ok₀ i₀ ok i = d - i
 
 pub end-joints-spec : {M : Type 1} → statement M
 end-joints-spec =
@@ -21,11 +21,13 @@ end-joints-spec =
     (tie.spec
     Inv-loop
     μ-loop
-    (λ c. rw (le-ltb 0 (c .before .before .before .before .before .args .n) (omega (arith, c .if1 .taken))))
+    (λ c. rw (le-ltb 0 (c .before .before .before .before .before .args .stationary) (omega (arith, c .if1 .taken))))
     (λ c. (omega arith, each-none))
     (λ c κs. omega (arith, (c .before .before .before .before .before .before .before .pre), (c .loop-test)))
     (λ c κs. search scanning)
     (λ c. search scanning)
     (λ c. omega (arith, (c .before .before .loop-test)))
-    (λ c. (omega (arith, (c .before .before .loop-test)), each-more ((c .before .before .before .loop .inv) .1) (each-zero (endTest (torqueOf (c .before .before .before .before .before .before .before .before .before .args .d) (now (c .before .before .before .before .before .before .before .before .before .args .ta)) (now (c .before .before .before .before .before .before .before .before .before .args .tb)) (now (c .before .before .before .before .before .before .before .before .before .args .tg))) (now (c .before .before .before .before .before .before .before .before .before .args .scales)) (c .before .before .before .before .before .before .before .before .before .args .k) (c .before .before .before .before .before .before .before .before .before .args .z)) (c .before .before .before .loop .i) (c .before .end-joint .ensures)) (c .both .ensures)))
-    (λ c. rw (lt-ltb 0 (c .before .before .before .before .before .before .before .args .n) (omega (arith, (c .before .before .if1 .left)))) ((each-all ((c .before .loop .inv) .1) ((c .before .loop .inv) .0) (c .loop-test .left)) .says)))
+    (λ c. let c1 = c .before in let c2 = c1 .before in let c3 = c2 .before in let c9 = c3 .before .before .before .before .before .before in
+    (omega (arith, (c2 .loop-test)), each-more ((c3 .loop .inv) .1) (each-zero (endTest (torqueOf (c9 .args .d) (now (c9 .args .torque-a)) (now (c9 .args .torque-b)) (now (c9 .args .torque-g))) (now (c9 .args .scales)) (c9 .args .k) (c9 .args .z)) (c3 .loop .i) (c1 .end-joint .ensures)) (c .both .ensures)))
+    (λ c. let c1 = c .before in let c2 = c1 .before in let c7 = c2 .before .before .before .before .before in
+    rw (lt-ltb 0 (c7 .args .stationary) (omega (arith, (c2 .if1 .left)))) ((each-all ((c1 .loop .inv) .1) ((c1 .loop .inv) .0) (c .loop-test .left)) .says)))

@@ -9,10 +9,10 @@ use Rattle.finite_objectives.proofs.joints.Statement.{statement}
 use Rattle.finite_objectives.proofs.joints.Tie as tie
 
 abbrev Inv-loop : tie.InvT-loop
-Inv-loop ta tb tg scales d k ok₀ i₀ ok i = (i ≤ d) × Each ok (jointTest (torqueOf d ta tb tg) scales k) 0 i
+Inv-loop torque-a torque-b torque-g scales d k ok₀ i₀ ok i = (i ≤ d) × Each ok (jointTest (torqueOf d torque-a torque-b torque-g) scales k) 0 i
 
 abbrev μ-loop : tie.MeasureT-loop
-μ-loop ta tb tg scales d k ok₀ i₀ ok i = d - i
+μ-loop torque-a torque-b torque-g scales d k ok₀ i₀ ok i = d - i
 
 pub joints-spec : {M : Type 1} → statement M
 joints-spec =
@@ -28,5 +28,7 @@ joints-spec =
     (λ c κs. search scanning)
     (λ c. search scanning)
     (λ c. omega (arith, (c .before .before .before .before .before .loop-test)))
-    (λ c. (omega (arith, (c .before .before .before .before .before .loop-test)), each-more ((c .before .before .before .before .before .before .loop .inv) .1) (each-zero (jointTest (torqueOf (c .before .before .before .before .before .before .before .before .before .before .before .args .d) (now (c .before .before .before .before .before .before .before .before .before .before .before .args .ta)) (now (c .before .before .before .before .before .before .before .before .before .before .before .args .tb)) (now (c .before .before .before .before .before .before .before .before .before .before .before .args .tg))) (now (c .before .before .before .before .before .before .before .before .before .before .before .args .scales)) (c .before .before .before .before .before .before .before .before .before .before .before .args .k)) (c .before .before .before .before .before .before .loop .i) (rw (← (c .before .before .before .before .scaled .ensures), ← (c .before .before .before .scaled2 .ensures), ← (c .before .before .scaled3 .ensures)) (c .before .three-finite .ensures))) (c .both .ensures)))
+    (λ c. let c1 = c .before in let c2 = c1 .before in let c3 = c2 .before in let c4 = c3 .before in let c5 = c4 .before in let c6 = c5 .before in
+    let c11 = c6 .before .before .before .before .before in
+    (omega (arith, (c5 .loop-test)), each-more ((c6 .loop .inv) .1) (each-zero (jointTest (torqueOf (c11 .args .d) (now (c11 .args .torque-a)) (now (c11 .args .torque-b)) (now (c11 .args .torque-g))) (now (c11 .args .scales)) (c11 .args .k)) (c6 .loop .i) (rw (← (c4 .scaled .ensures), ← (c3 .scaled2 .ensures), ← (c2 .scaled3 .ensures)) (c1 .three-finite .ensures))) (c .both .ensures)))
     (λ c. each-all ((c .before .loop .inv) .1) ((c .before .loop .inv) .0) (c .loop-test .left)))

@@ -9,10 +9,10 @@ use Rattle.finite_objectives.proofs.step_joints.Statement.{statement}
 use Rattle.finite_objectives.proofs.step_joints.Tie as tie
 
 abbrev Inv-loop : tie.InvT-loop
-Inv-loop ta tb tg scales d k ok₀ i₀ ok i = (i ≤ d) × Each ok (stepTest (torqueOf d ta tb tg) scales k) 0 i
+Inv-loop torque-a torque-b torque-g scales d k ok₀ i₀ ok i = (i ≤ d) × Each ok (stepTest (torqueOf d torque-a torque-b torque-g) scales k) 0 i
 
 abbrev μ-loop : tie.MeasureT-loop
-μ-loop ta tb tg scales d k ok₀ i₀ ok i = d - i
+μ-loop torque-a torque-b torque-g scales d k ok₀ i₀ ok i = d - i
 
 pub step-joints-spec : {M : Type 1} → statement M
 step-joints-spec =
@@ -25,5 +25,6 @@ step-joints-spec =
     (λ c κs. search scanning)
     (λ c. search scanning)
     (λ c. omega (arith, (c .before .before .loop-test)))
-    (λ c. (omega (arith, (c .before .before .loop-test)), each-more ((c .before .before .before .loop .inv) .1) (each-zero (stepTest (torqueOf (c .before .before .before .before .before .before .before .before .args .d) (now (c .before .before .before .before .before .before .before .before .args .ta)) (now (c .before .before .before .before .before .before .before .before .args .tb)) (now (c .before .before .before .before .before .before .before .before .args .tg))) (now (c .before .before .before .before .before .before .before .before .args .scales)) (c .before .before .before .before .before .before .before .before .args .k)) (c .before .before .before .loop .i) (c .before .step-joint .ensures)) (c .both .ensures)))
+    (λ c. let c1 = c .before in let c2 = c1 .before in let c3 = c2 .before in let c8 = c3 .before .before .before .before .before in
+    (omega (arith, (c2 .loop-test)), each-more ((c3 .loop .inv) .1) (each-zero (stepTest (torqueOf (c8 .args .d) (now (c8 .args .torque-a)) (now (c8 .args .torque-b)) (now (c8 .args .torque-g))) (now (c8 .args .scales)) (c8 .args .k)) (c3 .loop .i) (c1 .step-joint .ensures)) (c .both .ensures)))
     (λ c. each-all ((c .before .loop .inv) .1) ((c .before .loop .inv) .0) (c .loop-test .left)))

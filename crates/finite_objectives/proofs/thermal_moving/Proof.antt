@@ -13,14 +13,16 @@ use Rattle.finite_objectives.proofs.thermal_moving.Statement.{statement
 use Rattle.finite_objectives.proofs.thermal_moving.Tie as tie
 
 abbrev Inv-loop : tie.InvT-loop
-Inv-loop s ta tb tg scales d weights w count first v ok₀ j₀ ok j = (j ≤ count) × Each ok (λ j. thermalAt (torqueOf d ta tb tg) scales weights w (first + j)) 0 j
+Inv-loop grid torque-a torque-b torque-g scales d thermal weight count first v ok₀ j₀ ok j = (j ≤ count) × Each ok (λ j. thermalAt (torqueOf d torque-a torque-b torque-g) scales thermal weight (first + j)) 0 j
 
 abbrev μ-loop : tie.MeasureT-loop
-μ-loop s ta tb tg scales d weights w count first v ok₀ j₀ ok j = count - j
+μ-loop grid torque-a torque-b torque-g scales d thermal weight count first v ok₀ j₀ ok j = count - j
 
 returns : tie.Need-returns Inv-loop μ-loop
 unfolding skip
-returns c = rw (← (c .before .before .larger .ensures), ← (c .before .before .before .length-xi .ensures)) (each-all ((c .before .loop .inv) .1) ((c .before .loop .inv) .0) (c .loop-test .left))
+returns c =
+    let c1 = c .before in let c2 = c1 .before in let c3 = c2 .before in
+    rw (← (c2 .larger .ensures), ← (c3 .length-xi .ensures)) (each-all ((c1 .loop .inv) .1) ((c1 .loop .inv) .0) (c .loop-test .left))
 
 pub thermal-moving-spec : {M : Type 1} → statement M
 thermal-moving-spec =
@@ -31,13 +33,24 @@ thermal-moving-spec =
     (λ c κs. (c .before .before .before .before .before .before .pre) .0 .0)
     (λ c κs. search scanning)
     (λ c. (omega arith, each-none))
-    (λ c. let a = (c .before .before .before .before .before .before .before .before .before .before .args) in let i = xi-stations (path (now (a .s)) (a .e)) (c .before .before .larger .ensures) (c .before .before .before .length-xi .ensures) (omega (arith, (c .before .before .before .before .before .before .before .before .before .before .pre))) (c .loop-test .taken) in omega (arith, (c .before .before .before .before .before .before .before .before .before .before .pre)))
-    (λ c κs. let a = (c .before .before .before .before .before .before .before .before .before .before .args) in let k = (c .before .before .larger .result) + (c .before .loop .j) in let i = xi-stations (path (now (a .s)) (a .e)) (c .before .before .larger .ensures) (c .before .before .before .length-xi .ensures) (omega (arith, (c .before .before .before .before .before .before .before .before .before .before .pre))) (c .loop-test .taken) in let h = within-all k (length (now (a .s))) (a .d) i in omega (arith, (c .before .before .before .before .before .before .before .before .before .before .pre)))
-    (λ c κs. let a = (c .before .before .before .before .before .before .before .before .before .before .before .args) in let i = xi-stations (path (now (a .s)) (a .e)) (c .before .before .before .larger .ensures) (c .before .before .before .before .length-xi .ensures) (omega (arith, (c .before .before .before .before .before .before .before .before .before .before .before .pre))) (c .before .loop-test .taken) in omega (arith, (c .before .before .before .before .before .before .before .before .before .before .before .pre)))
+    (λ c. let c2 = c .before .before in let c3 = c2 .before in let c10 = c3 .before .before .before .before .before .before .before in
+    let a = (c10 .args) in let i = xi-stations (path (now (a .grid)) (a .ends)) (c2 .larger .ensures) (c3 .length-xi .ensures) (omega (arith, (c10 .pre))) (c .loop-test .taken) in omega (arith, (c10 .pre)))
+    (λ c κs. let c1 = c .before in let c2 = c1 .before in let c3 = c2 .before in let c10 = c3 .before .before .before .before .before .before .before in
+    let a = (c10 .args) in let k = (c2 .larger .result) + (c1 .loop .j) in let i = xi-stations (path (now (a .grid)) (a .ends)) (c2 .larger .ensures) (c3 .length-xi .ensures) (omega (arith, (c10 .pre))) (c .loop-test .taken) in let h = within-all k (length (now (a .grid))) (a .d) i in omega (arith, (c10 .pre)))
+    (λ c κs. let c1 = c .before in let c3 = c1 .before .before in let c4 = c3 .before in let c11 = c4 .before .before .before .before .before .before .before in
+    let a = (c11 .args) in let i = xi-stations (path (now (a .grid)) (a .ends)) (c3 .larger .ensures) (c4 .length-xi .ensures) (omega (arith, (c11 .pre))) (c1 .loop-test .taken) in omega (arith, (c11 .pre)))
     (λ c κs. search scanning)
     (λ c κs. search scanning)
     (λ c κs. search scanning)
-    (λ c. let a = (c .before .before .before .before .before .before .before .before .before .before .before .before .before .before .before .args) in let i = xi-stations (path (now (a .s)) (a .e)) (c .before .before .before .before .before .before .before .larger .ensures) (c .before .before .before .before .before .before .before .before .length-xi .ensures) (omega (arith, (c .before .before .before .before .before .before .before .before .before .before .before .before .before .before .before .pre))) (c .before .before .before .before .before .loop-test .taken) in omega (arith, (c .before .before .before .before .before .before .before .before .before .before .before .before .before .before .before .pre)))
+    (λ c. let c5 = c .before .before .before .before .before in let c7 = c5 .before .before in let c8 = c7 .before in
+    let c15 = c8 .before .before .before .before .before .before .before in
+    let a = (c15 .args) in let i = xi-stations (path (now (a .grid)) (a .ends)) (c7 .larger .ensures) (c8 .length-xi .ensures) (omega (arith, (c15 .pre))) (c5 .loop-test .taken) in omega (arith, (c15 .pre)))
     (λ c. omega (arith, (c .before .before .before .before .before .loop-test)))
-    (λ c. (omega (arith, (c .before .before .before .before .before .loop-test)), each-more ((c .before .before .before .before .before .before .loop .inv) .1) (each-zero (λ j. thermalAt (torqueOf (c .before .before .before .before .before .before .before .before .before .before .before .before .before .before .before .args .d) (now (c .before .before .before .before .before .before .before .before .before .before .before .before .before .before .before .args .ta)) (now (c .before .before .before .before .before .before .before .before .before .before .before .before .before .before .before .args .tb)) (now (c .before .before .before .before .before .before .before .before .before .before .before .before .before .before .before .args .tg))) (now (c .before .before .before .before .before .before .before .before .before .before .before .before .before .before .before .args .scales)) (now (c .before .before .before .before .before .before .before .before .before .before .before .before .before .before .before .args .weights)) (c .before .before .before .before .before .before .before .before .before .before .before .before .before .before .before .args .w) ((c .before .before .before .before .before .before .before .larger .result) + j)) (c .before .before .before .before .before .before .loop .j) (rw (← (c .before .before .before .before .joints .ensures) .says, ← (c .before .before .before .weighted .ensures), ← (c .before .before .is-finite .ensures)) (c .before .both .ensures))) (c .both2 .ensures)))
+    (λ c. let c1 = c .before in let c2 = c1 .before in let c3 = c2 .before in let c4 = c3 .before in let c5 = c4 .before in let c6 = c5 .before in let c7 = c6 .before in
+    let c15 = c7 .before .before .before .before .before .before .before .before in (
+      omega (arith, (c5 .loop-test)),
+      each-more ((c6 .loop .inv) .1)
+          (each-zero (λ j. thermalAt (torqueOf (c15 .args .d) (now (c15 .args .torque-a)) (now (c15 .args .torque-b)) (now (c15 .args .torque-g))) (now (c15 .args .scales)) (now (c15 .args .thermal)) (c15 .args .weight) ((c7 .larger .result) + j)) (c6 .loop .j) (rw (← (c4 .joints .ensures) .says, ← (c3 .weighted .ensures), ← (c2 .is-finite .ensures)) (c1 .both .ensures)))
+          (c .both2 .ensures),
+    ))
     returns)

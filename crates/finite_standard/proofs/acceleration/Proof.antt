@@ -13,17 +13,24 @@ use Rattle.finite_standard.proofs.acceleration.Tie as tie
 
 returns : tie.Need-returns
 unfolding m
-returns c = let a = (c .before .before .before .before .before .before .before .before .before .before .args) in acc-scanned (path (now (a .s)) (a .e)) (accOf (now (a .counts)) (now (a .aa)) (now (a .ab)) (now (a .ah))) (a .e .n0 + 1) (length (now (a .s)) - 1 - a .e .n0 - a .e .n1 - 1) (c .before .before .before .offset .ensures) (same-place (now (a .counts)) {i = length (now (a .s)) - 1 - a .e .n1} {k = a .e .n0 + 1 + (length (now (a .s)) - 1 - a .e .n0 - a .e .n1 - 1)} (c .before .offset2 .ensures) (omega (arith, (c .before .before .before .before .before .before .before .before .before .before .pre))) (omega (arith, (c .before .before .before .before .before .before .before .before .before .before .pre)))) (omega (arith, (c .before .before .before .before .before .before .before .before .before .before .pre))) (c .acc-part .ensures)
+returns c =
+    let c1 = c .before in let c3 = c1 .before .before in let c10 = c3 .before .before .before .before .before .before .before in
+    let a = (c10 .args) in acc-scanned (path (now (a .grid)) (a .ends)) (accOf (now (a .acc-rows)) (now (a .acc-a)) (now (a .acc-b)) (now (a .acc-max))) (a .ends .n0 + 1) (length (now (a .grid)) - 1 - a .ends .n0 - a .ends .n1 - 1)
+    (c3 .offset .ensures)
+    (same-place (now (a .acc-rows)) {i = length (now (a .grid)) - 1 - a .ends .n1} {k = a .ends .n0 + 1 + (length (now (a .grid)) - 1 - a .ends .n0 - a .ends .n1 - 1)} (c1 .offset2 .ensures) (omega (arith, (c10 .pre))) (omega (arith, (c10 .pre))))
+    (omega (arith, (c10 .pre))) (c .acc-part .ensures)
 
 pub acceleration-spec : {M : Type 1} → statement M
 acceleration-spec =
     tie.close
     (tie.spec
     (λ c. search needs)
-    (λ c κs. omega (arith, (c .before .before .before .before .before .before .pre), (c .before .before .before .before .before .before .good)))
+    (λ c κs. let c6 = c .before .before .before .before .before .before in omega (arith, (c6 .pre), (c6 .good)))
     (λ c. search needs)
     (λ c. search needs)
-    (λ c κs. omega (arith, (c .before .before .before .before .before .before .before .before .pre), (c .before .before .before .before .before .before .before .before .good)))
-    (λ c. let a = (c .before .before .before .before .before .before .before .before .before .args) in omega (arith, (c .before .before .offset .ensures), before-upto (now (a .counts)) (a .e .n0 + 1) (length (now (a .s)) - 1 - a .e .n1) (omega (arith, (c .before .before .before .before .before .before .before .before .before .pre))) (c .offset2 .ensures)))
-    (λ c κs. let a = (c .before .before .before .before .before .before .before .before .before .args) in omega (arith, (c .before .before .before .before .before .before .before .before .before .pre), (c .before .before .offset .ensures), (c .offset2 .ensures), before-upto (now (a .counts)) (a .e .n0 + 1) (length (now (a .s)) - 1 - a .e .n1) (omega (arith, (c .before .before .before .before .before .before .before .before .before .pre))) (c .offset2 .ensures), before-below (now (a .counts)) (length (now (a .s)) - 1 - a .e .n1)))
+    (λ c κs. let c8 = c .before .before .before .before .before .before .before .before in omega (arith, (c8 .pre), (c8 .good)))
+    (λ c. let c2 = c .before .before in let c9 = c2 .before .before .before .before .before .before .before in
+    let a = (c9 .args) in omega (arith, (c2 .offset .ensures), before-upto (now (a .acc-rows)) (a .ends .n0 + 1) (length (now (a .grid)) - 1 - a .ends .n1) (omega (arith, (c9 .pre))) (c .offset2 .ensures)))
+    (λ c κs. let c2 = c .before .before in let c9 = c2 .before .before .before .before .before .before .before in
+    let a = (c9 .args) in omega (arith, (c9 .pre), (c2 .offset .ensures), (c .offset2 .ensures), before-upto (now (a .acc-rows)) (a .ends .n0 + 1) (length (now (a .grid)) - 1 - a .ends .n1) (omega (arith, (c9 .pre))) (c .offset2 .ensures), before-below (now (a .acc-rows)) (length (now (a .grid)) - 1 - a .ends .n1)))
     returns)

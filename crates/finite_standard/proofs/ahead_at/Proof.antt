@@ -10,11 +10,15 @@ use Rattle.finite_standard.proofs.ahead_at.Tie as tie
 
 returns : tie.Need-returns
 unfolding stop
-returns c = rw (le-ltb (c .before .before .before .before .before .args .k) (length (now (c .before .before .before .before .before .args .s)) - 1 - (c .before .before .before .before .before .args .e .n1)) (omega (arith, c .if1 .taken)))
+returns c =
+    let c5 = c .before .before .before .before .before in
+    rw (le-ltb (c5 .args .k) (length (now (c5 .args .grid)) - 1 - (c5 .args .ends .n1)) (omega (arith, c .if1 .taken)))
 
 returns-2 : tie.Need-returns-2
 unfolding stop
-returns-2 c = rw (lt-ltb (c .before .before .before .before .before .before .before .args .k) (length (now (c .before .before .before .before .before .before .before .args .s)) - 1 - (c .before .before .before .before .before .before .before .args .e .n1)) (omega (arith, (c .before .before .if1 .left))), ← (c .before .spacing .ensures)) ((c .jerk-ahead .ensures) .says)
+returns-2 c =
+    let c1 = c .before in let c2 = c1 .before in let c7 = c2 .before .before .before .before .before in
+    rw (lt-ltb (c7 .args .k) (length (now (c7 .args .grid)) - 1 - (c7 .args .ends .n1)) (omega (arith, (c2 .if1 .left))), ← (c1 .spacing .ensures)) ((c .jerk-ahead .ensures) .says)
 
 pub ahead-at-spec : {M : Type 1} → statement M
 ahead-at-spec =

@@ -9,7 +9,10 @@ use Rattle.finite_standard.proofs.equalities.Tie as tie
 
 returns : tie.Need-returns
 unfolding m stop
-returns c = let a = (c .before .before .before .before .before .before .before .before .before .before .before .args) in rw (← (c .before .before .both .ensures), ← (c .before .both2 .ensures)) (c .both3 .ensures) ∙ equal-scanned (path (now (a .s)) (a .e)) (a .x) (c .before .before .before .before .before .before .before .before .before .boundary .ensures) (c .before .before .before .before .before .before .before .before .stationary .ensures) (c .before .before .before .before .before .before .stationary2 .ensures) (c .before .before .before .spacings .ensures)
+returns c =
+    let c1 = c .before in let c2 = c1 .before in let c3 = c2 .before in let c6 = c3 .before .before .before in let c8 = c6 .before .before in let c9 = c8 .before in
+    let c11 = c9 .before .before in
+    let a = (c11 .args) in rw (← (c2 .both .ensures), ← (c1 .both2 .ensures)) (c .both3 .ensures) ∙ equal-scanned (path (now (a .grid)) (a .ends)) (a .boundary) (c9 .boundary-states .ensures) (c8 .stationary .ensures) (c6 .stationary2 .ensures) (c3 .spacings .ensures)
 
 pub equalities-spec : {M : Type 1} → statement M
 equalities-spec =

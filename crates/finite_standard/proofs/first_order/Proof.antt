@@ -10,7 +10,9 @@ use Rattle.finite_standard.proofs.first_order.Tie as tie
 
 returns : tie.Need-returns
 unfolding m
-returns c = let a = (c .before .before .before .before .before .before .before .before .before .args) in rw (← (c .before .both .ensures)) (c .both2 .ensures) ∙ first-scanned (path (now (a .s)) (a .e)) (limits (a .lo) (a .hi) (now (a .amax))) (c .before .before .before .before .before .before .minimum .ensures) (c .before .before .before .before .before .minimum2 .ensures) (c .before .before .intervals .ensures)
+returns c =
+    let c1 = c .before in let c2 = c1 .before in let c5 = c2 .before .before .before in let c6 = c5 .before in let c9 = c6 .before .before .before in
+    let a = (c9 .args) in rw (← (c1 .both .ensures)) (c .both2 .ensures) ∙ first-scanned (path (now (a .grid)) (a .ends)) (limits (a .start) (a .end) (now (a .amax))) (c6 .minimum .ensures) (c5 .minimum2 .ensures) (c2 .intervals .ensures)
 
 pub first-order-spec : {M : Type 1} → statement M
 first-order-spec =

@@ -9,10 +9,10 @@ use Rattle.finite_standard.proofs.intervals.Statement.{statement}
 use Rattle.finite_standard.proofs.intervals.Tie as tie
 
 abbrev Inv-loop : tie.InvT-loop
-Inv-loop s from count ok₀ i₀ ok i = (i ≤ count) × Each ok (λ k. twiceTest (at s (k + 1) ⊖ at s k)) from i
+Inv-loop grid from count ok₀ i₀ ok i = (i ≤ count) × Each ok (λ k. twiceTest (at grid (k + 1) ⊖ at grid k)) from i
 
 abbrev μ-loop : tie.MeasureT-loop
-μ-loop s from count ok₀ i₀ ok i = count - i
+μ-loop grid from count ok₀ i₀ ok i = count - i
 
 pub intervals-spec : {M : Type 1} → statement M
 intervals-spec =
@@ -29,5 +29,6 @@ intervals-spec =
     (λ c κs. search scanning)
     (λ c. search scanning)
     (λ c. omega (arith, (c .before .before .before .before .before .loop-test)))
-    (λ c. (omega (arith, (c .before .before .before .before .before .loop-test)), each-more ((c .before .before .before .before .before .before .loop .inv) .1) (rw (← (c .before .before .before .is-finite .ensures), ← (c .before .before .is-finite2 .ensures)) (c .before .both .ensures) ∙ ap twiceTest (c .before .before .before .before .spacing .ensures)) (c .both2 .ensures)))
+    (λ c. let c1 = c .before in let c2 = c1 .before in let c3 = c2 .before in let c4 = c3 .before in let c5 = c4 .before in let c6 = c5 .before in
+    (omega (arith, (c5 .loop-test)), each-more ((c6 .loop .inv) .1) (rw (← (c3 .is-finite .ensures), ← (c2 .is-finite2 .ensures)) (c1 .both .ensures) ∙ ap twiceTest (c4 .spacing .ensures)) (c .both2 .ensures)))
     (λ c. each-all ((c .before .loop .inv) .1) ((c .before .loop .inv) .0) (c .loop-test .left)))

@@ -7,10 +7,10 @@ use Rattle.finite_standard.proofs.jerk_ahead.Statement.{statement}
 use Rattle.finite_standard.proofs.jerk_ahead.Tie as tie
 
 abbrev Inv-loop : tie.InvT-loop
-Inv-loop jb jc r from count ok₀ i₀ ok i = (i ≤ count) × Each ok (aheadTest jb jc r) from i
+Inv-loop jerk-b jerk-c r from count ok₀ i₀ ok i = (i ≤ count) × Each ok (aheadTest jerk-b jerk-c r) from i
 
 abbrev μ-loop : tie.MeasureT-loop
-μ-loop jb jc r from count ok₀ i₀ ok i = count - i
+μ-loop jerk-b jerk-c r from count ok₀ i₀ ok i = count - i
 
 pub jerk-ahead-spec : {M : Type 1} → statement M
 jerk-ahead-spec =
@@ -28,5 +28,6 @@ jerk-ahead-spec =
     (λ c κs. search scanning)
     (λ c. search scanning)
     (λ c. omega (arith, (c .before .before .before .before .loop-test)))
-    (λ c. (omega (arith, (c .before .before .before .before .loop-test)), each-more ((c .before .before .before .before .before .loop .inv) .1) (c .before .is-finite .ensures) (c .both .ensures)))
+    (λ c. let c1 = c .before in let c4 = c1 .before .before .before in let c5 = c4 .before in
+    (omega (arith, (c4 .loop-test)), each-more ((c5 .loop .inv) .1) (c1 .is-finite .ensures) (c .both .ensures)))
     (λ c. each-all ((c .before .loop .inv) .1) ((c .before .loop .inv) .0) (c .loop-test .left)))

@@ -19,4 +19,7 @@ jerk-at-spec =
     (λ c κs. omega (arith, (c .before .before .before .before .before .before .before .before .before .before .pre), (c .before .before .wide .ensures)))
     (λ c κs. search needs)
     (λ c κs. search needs)
-    (λ c. let a = (c .before .before .before .before .before .before .before .before .before .before .before .before .before .args) in let q = path (now (a .s)) (a .e) in jerk-scanned q (jerkOf (now (a .counts)) (now (a .ja)) (now (a .jb)) (now (a .jc)) (now (a .jh))) (a .k) (moving-stop q (omega (arith, (c .before .before .before .before .before .before .before .before .before .before .before .before .before .pre) .0))) ((c .before .before .before .before .before .before .before .before .before .before .before .before .before .pre) .2) (c .before .before .before .before .before .wide .ensures) (c .before .before .before .before .jerk-pairs .ensures) (c .before .before .before .back-at .ensures) (c .before .before .ahead-at .ensures) (rw (← (c .before .both .ensures)) (c .both2 .ensures))))
+    (λ c. let c1 = c .before in let c2 = c1 .before in let c3 = c2 .before in let c4 = c3 .before in let c5 = c4 .before in
+    let c13 = c5 .before .before .before .before .before .before .before .before in
+    let a = (c13 .args) in let q = path (now (a .grid)) (a .ends) in jerk-scanned q (jerkOf (now (a .jerk-rows)) (now (a .jerk-a)) (now (a .jerk-b)) (now (a .jerk-c)) (now (a .jerk-max))) (a .k) (moving-stop q (omega (arith, (c13 .pre) .0)))
+    ((c13 .pre) .2) (c5 .wide .ensures) (c4 .jerk-pairs .ensures) (c3 .back-at .ensures) (c2 .ahead-at .ensures) (rw (← (c1 .both .ensures)) (c .both2 .ensures))))

@@ -7,10 +7,10 @@ use Rattle.finite_standard.proofs.jerk_pairs.Statement.{statement}
 use Rattle.finite_standard.proofs.jerk_pairs.Tie as tie
 
 abbrev Inv-loop : tie.InvT-loop
-Inv-loop ja jh from count ok₀ i₀ ok i = (i ≤ count) × Each ok (pairTest ja jh) from i
+Inv-loop jerk-a jerk-max from count ok₀ i₀ ok i = (i ≤ count) × Each ok (pairTest jerk-a jerk-max) from i
 
 abbrev μ-loop : tie.MeasureT-loop
-μ-loop ja jh from count ok₀ i₀ ok i = count - i
+μ-loop jerk-a jerk-max from count ok₀ i₀ ok i = count - i
 
 pub jerk-pairs-spec : {M : Type 1} → statement M
 jerk-pairs-spec =
@@ -28,5 +28,6 @@ jerk-pairs-spec =
     (λ c κs. search scanning)
     (λ c. search scanning)
     (λ c. omega (arith, (c .before .before .before .before .loop-test)))
-    (λ c. (omega (arith, (c .before .before .before .before .loop-test)), each-more ((c .before .before .before .before .before .loop .inv) .1) (c .before .both-finite .ensures) (c .both .ensures)))
+    (λ c. let c1 = c .before in let c4 = c1 .before .before .before in let c5 = c4 .before in
+    (omega (arith, (c4 .loop-test)), each-more ((c5 .loop .inv) .1) (c1 .both-finite .ensures) (c .both .ensures)))
     (λ c. each-all ((c .before .loop .inv) .1) ((c .before .loop .inv) .0) (c .loop-test .left)))

@@ -8,6 +8,6 @@ pub minimum-spec : {M : Type 1} → statement M
 minimum-spec =
     tie.close
     (tie.spec
-    (λ c. rw (le-ltb 0 (c .before .args .n) (omega (arith, c .if1 .taken))))
+    (λ c. rw (le-ltb 0 (c .before .args .stationary) (omega (arith, c .if1 .taken))))
     (λ c κs. search needs)
-    (λ c. rw (lt-ltb 0 (c .before .before .args .n) (omega (arith, (c .before .if1 .left)))) (c .is-finite .ensures)))
+    (λ c. rw (lt-ltb 0 (c .before .before .args .stationary) (omega (arith, (c .before .if1 .left)))) (c .is-finite .ensures)))

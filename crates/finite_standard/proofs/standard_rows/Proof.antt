@@ -19,4 +19,8 @@ standard-rows-spec =
     (λ c κs. search needs)
     (λ c κs. search needs)
     (λ c κs. search needs)
-    (λ c. let a = (c .before .before .before .before .before .before .before .before .before .before .before .before .before .before .before .before .before .before .args) in rw (← (c .before .before .both .ensures), ← (c .before .both2 .ensures)) (c .both3 .ensures) ∙ standard-scanned (path (now (a .s)) (a .e)) (a .x) (limits (a .lo) (a .hi) (now (a .amax))) (accOf (now (a .counts)) (now (a .aa)) (now (a .ab)) (now (a .ah))) (jerkOf (now (a .turns)) (now (a .ja)) (now (a .jb)) (now (a .jc)) (now (a .jh))) (c .before .before .before .before .before .before .equalities .ensures) (c .before .before .before .before .before .first-order .ensures) (c .before .before .before .before .acceleration .ensures) (c .before .before .before .jerk .ensures)))
+    (λ c. let c1 = c .before in let c2 = c1 .before in let c3 = c2 .before in let c4 = c3 .before in let c5 = c4 .before in let c6 = c5 .before in
+    let c18 = c6 .before .before .before .before .before .before .before .before .before .before .before .before in
+    let a = (c18 .args) in rw (← (c2 .both .ensures), ← (c1 .both2 .ensures)) (c .both3 .ensures) ∙ standard-scanned (path (now (a .grid)) (a .ends)) (a .boundary) (limits (a .start) (a .end) (now (a .amax)))
+    (accOf (now (a .acc-rows)) (now (a .acc-a)) (now (a .acc-b)) (now (a .acc-max))) (jerkOf (now (a .jerk-rows)) (now (a .jerk-a)) (now (a .jerk-b)) (now (a .jerk-c)) (now (a .jerk-max))) (c6 .equalities .ensures) (c5 .first-order .ensures)
+    (c4 .acceleration .ensures) (c3 .jerk .ensures)))

@@ -1,7 +1,9 @@
+use native.Mathlib.Omega.{arith}
 use mathlib.Core.Path.{sym, _∙_}
 use Rattle.model.specs.Standard.{upperRow}
 use Rattle.buffers.proofs.Laws.{wrote-skip}
 use Rattle.first_order.proofs.Tests.{not-true, not-false}
+use Rattle.columns.proofs.Cells.{row1-at}
 use borrow.Author.Needs.{needs}
 use Rattle.first_order.proofs.upper.Statement.{statement}
 use Rattle.first_order.proofs.upper.Tie as tie
@@ -12,7 +14,10 @@ returns c = rw (sym (c .before .is-finite .ensures) ∙ not-true (c .before .is-
 
 returns-2 : tie.Need-returns-2
 unfolding upperRow
-returns-2 c = rw (sym (c .before .before .before .before .before .before .before .before .before .before .before .before .before .before .is-finite .ensures) ∙ not-false (c .before .before .before .before .before .before .before .before .before .before .before .before .before .before .is-finite .result) (c .before .before .before .before .before .before .before .before .before .before .before .before .before .if1 .left)) (c .before .before .before .before .before .before .before .before .row1 .ensures)
+returns-2 c =
+    let c8 = c .before .before .before .before .before .before .before .before in let c13 = c8 .before .before .before .before .before in let c14 = c13 .before in
+    let c15 = c14 .before in
+    rw (sym (c15 .is-finite .ensures) ∙ not-false (c15 .is-finite .result) (c14 .if1 .left)) (row1-at (c8 .row1 .ensures) (c13 .column-a .ensures))
 
 pub upper-spec : {M : Type 1} → statement M
 upper-spec =
@@ -20,7 +25,9 @@ upper-spec =
     (tie.spec
     (λ c κs. search needs)
     returns
-    (λ c κs. search needs)
+    (λ c κs. tt)
+    (λ c κs. let c4 = c .before .before .before .before in let c12 = c4 .before .before .before .before .before .before .before .before in
+    omega (arith, (c12 .pre), (c4 .column-a .ensures)))
     (λ c. search needs)
     (λ c. search needs)
     (λ c. search needs)

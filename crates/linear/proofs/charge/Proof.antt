@@ -20,4 +20,4 @@ charge-spec =
     (λ c. search needs)
     (λ c. search needs)
     (λ c κs. search needs)
-    (λ c. let a = (c .before .before .before .before .before .before .before .args) in charged-parts (now (a .s)) (a .e) (now (a .r0)) (now (a .r1)) (a .w) (now (a .pool)) (a .alpha) (length (now (a .s))) (a .beta) (length (now (a .s))) (c .clarabel-objective-linear-copp3 .ensures)))
+    (λ c. let a = (c .before .before .before .before .before .before .before .args) in charged-parts (now (a .grid)) (a .ends) (now (a .start-roots)) (now (a .end-roots)) (a .weight) (now (a .pool)) (a .alpha) (length (now (a .grid))) (a .beta) (length (now (a .grid))) (c .clarabel-objective-linear-copp3 .ensures)))

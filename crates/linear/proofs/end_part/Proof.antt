@@ -2,7 +2,6 @@ use Prim.Native.Nat.{ℕ, _-_}
 use native.Mathlib.Omega.{arith}
 use mathlib.Core.Path.{sym}
 use denote.Ref.{now}
-use Rattle.model.specs.Numbers.{at}
 use Rattle.model.specs.Problem.{m}
 use Rattle.model.specs.Program.{cell}
 use Rattle.model.specs.Objectives.{endCharge}
@@ -16,8 +15,9 @@ pub end-part-spec : {M : Type 1} → statement M
 end-part-spec =
     tie.close
     (tie.spec
-    (λ c. let a = (c .before .before .before .before .before .before .args) in past-by (λ (k : ℕ). cell (a .at) (endCharge (path (now (a .s)) (a .e)) (a .w) (now (a .alpha)) (now (a .beta)) (a .at) (a .z) (now (a .roots)) k)) 1 (a .stationary - 1) (λ j h l q. (c .if1 .taken) (sym q)))
+    (λ c. let a = (c .before .before .before .before .before .before .args) in past-by (λ (k : ℕ). cell (a .at) (endCharge (path (now (a .grid)) (a .ends)) (a .weight) (now (a .alpha)) (now (a .beta)) (a .at) (a .z) (now (a .roots)) k)) 1 (a .stationary - 1) (λ j h l q. (c .if1 .taken) (sym q)))
     (λ c κs. search needs)
     (λ c. search needs)
     (λ c κs. omega (arith, (c .before .before .before .before .before .before .before .pre), (c .larger .ensures)))
-    (λ c. end-on {m = (c .before .before .before .before .before .before .before .before .args .stationary) - 1} (c .end-sum .ensures) (sym (c .before .before .if1 .left)) (one-less (c .before .before .before .before .before .before .before .before .args .stationary) (c .before .larger .result) (c .before .larger .ensures))))
+    (λ c. let c1 = c .before in let c2 = c1 .before in let c8 = c2 .before .before .before .before .before .before in
+    end-on {m = (c8 .args .stationary) - 1} (c .end-sum .ensures) (sym (c2 .if1 .left)) (one-less (c8 .args .stationary) (c1 .larger .result) (c1 .larger .ensures))))

@@ -9,10 +9,10 @@ use Rattle.linear.proofs.end_sum.Statement.{statement}
 use Rattle.linear.proofs.end_sum.Tie as tie
 
 abbrev Inv-loop : tie.InvT-loop
-Inv-loop x s e roots alpha beta w at z count y₀ i₀ y i = (i ≤ count) × Sums y y₀ at (endCharge (path s e) w alpha beta at z roots) 1 i
+Inv-loop x grid ends roots alpha beta weight at z count y₀ i₀ y i = (i ≤ count) × Sums y y₀ at (endCharge (path grid ends) weight alpha beta at z roots) 1 i
 
 abbrev μ-loop : tie.MeasureT-loop
-μ-loop x s e roots alpha beta w at z count y₀ i₀ y i = count - i
+μ-loop x grid ends roots alpha beta weight at z count y₀ i₀ y i = count - i
 
 pub end-sum-spec : {M : Type 1} → statement M
 end-sum-spec =

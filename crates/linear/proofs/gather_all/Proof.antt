@@ -8,10 +8,10 @@ use Rattle.linear.proofs.gather_all.Statement.{statement}
 use Rattle.linear.proofs.gather_all.Tie as tie
 
 abbrev Inv-loop : tie.InvT-loop
-Inv-loop count os weights₀ alphas₀ betas₀ k₀ i₀ weights alphas betas k i = (i ≤ count) × (k ≤ i) × ((l : ℕ) → AllLong l os count → Gathers l (take i os) weights alphas betas k)
+Inv-loop count objectives weights₀ alphas₀ betas₀ k₀ i₀ weights alphas betas k i = (i ≤ count) × (k ≤ i) × ((l : ℕ) → AllLong l objectives count → Gathers l (take i objectives) weights alphas betas k)
 
 abbrev μ-loop : tie.MeasureT-loop
-μ-loop count os weights₀ alphas₀ betas₀ k₀ i₀ weights alphas betas k i = count - i
+μ-loop count objectives weights₀ alphas₀ betas₀ k₀ i₀ weights alphas betas k i = count - i
 
 pub gather-all-spec : {M : Type 1} → statement M
 gather-all-spec =
@@ -23,14 +23,23 @@ gather-all-spec =
     (λ c. omega (arith, (c .before .before .pre), (c .loop-test), (c .before .loop .inv) .0, (c .before .loop .inv) .1))
     (λ c. omega (arith, (c .before .before .pre), (c .loop-test), (c .before .loop .inv) .0, (c .before .loop .inv) .1))
     (λ c κs. tt)
-    (λ c. omega (arith, (c .before .before .before .before .pre), (c .before .before .loop-test), (c .before .before .before .loop .inv) .0, (c .before .before .before .loop .inv) .1))
-    (λ c. omega (arith, (c .before .before .before .before .pre), (c .before .before .loop-test), (c .before .before .before .loop .inv) .0, (c .before .before .before .loop .inv) .1))
-    (λ c. omega (arith, (c .before .before .before .before .pre), (c .before .before .loop-test), (c .before .before .before .loop .inv) .0, (c .before .before .before .loop .inv) .1))
-    (λ c. omega (arith, (c .before .before .before .before .pre), (c .before .before .loop-test), (c .before .before .before .loop .inv) .0, (c .before .before .before .loop .inv) .1))
-    (λ c. omega (arith, (c .before .before .before .before .pre), (c .before .before .loop-test), (c .before .before .before .loop .inv) .0, (c .before .before .before .loop .inv) .1))
-    (λ c. omega (arith, (c .before .before .before .before .pre), (c .before .before .loop-test), (c .before .before .before .loop .inv) .0, (c .before .before .before .loop .inv) .1))
-    (λ c κs. omega (arith, (c .before .before .before .before .pre), (c .before .before .loop-test), (c .before .before .before .loop .inv) .0, (c .before .before .before .loop .inv) .1))
-    (λ c. omega (arith, (c .before .before .before .before .before .pre), (c .before .before .before .loop-test), (c .before .before .before .before .loop .inv) .0, (c .before .before .before .before .loop .inv) .1))
+    (λ c. let c2 = c .before .before in let c3 = c2 .before in let c4 = c3 .before in
+    omega (arith, (c4 .pre), (c2 .loop-test), (c3 .loop .inv) .0, (c3 .loop .inv) .1))
+    (λ c. let c2 = c .before .before in let c3 = c2 .before in let c4 = c3 .before in
+    omega (arith, (c4 .pre), (c2 .loop-test), (c3 .loop .inv) .0, (c3 .loop .inv) .1))
+    (λ c. let c2 = c .before .before in let c3 = c2 .before in let c4 = c3 .before in
+    omega (arith, (c4 .pre), (c2 .loop-test), (c3 .loop .inv) .0, (c3 .loop .inv) .1))
+    (λ c. let c2 = c .before .before in let c3 = c2 .before in let c4 = c3 .before in
+    omega (arith, (c4 .pre), (c2 .loop-test), (c3 .loop .inv) .0, (c3 .loop .inv) .1))
+    (λ c. let c2 = c .before .before in let c3 = c2 .before in let c4 = c3 .before in
+    omega (arith, (c4 .pre), (c2 .loop-test), (c3 .loop .inv) .0, (c3 .loop .inv) .1))
+    (λ c. let c2 = c .before .before in let c3 = c2 .before in let c4 = c3 .before in
+    omega (arith, (c4 .pre), (c2 .loop-test), (c3 .loop .inv) .0, (c3 .loop .inv) .1))
+    (λ c κs. let c2 = c .before .before in let c3 = c2 .before in let c4 = c3 .before in
+    omega (arith, (c4 .pre), (c2 .loop-test), (c3 .loop .inv) .0, (c3 .loop .inv) .1))
+    (λ c. let c3 = c .before .before .before in let c4 = c3 .before in let c5 = c4 .before in
+    omega (arith, (c5 .pre), (c3 .loop-test), (c4 .loop .inv) .0, (c4 .loop .inv) .1))
     (λ c. omega (arith, (c .before .before .before .loop-test)))
-    (λ c. let v = (c .before .before .before .before .loop .inv) in let i = (c .before .before .before .before .loop .i) in (omega (arith, (c .before .before .before .loop-test)), omega (arith, (c .after .ensures) .1, v .1), λ l h. gathers-next _ i (v .2 l h) (h i (c .before .before .before .loop-test .taken)) (c .before .gather .ensures) ((c .after .ensures) .0) (omega (arith, (c .before .before .before .before .before .pre), (c .before .before .before .loop-test), v .1))))
+    (λ c. let c1 = c .before in let c3 = c1 .before .before in let c4 = c3 .before in let c5 = c4 .before in
+    let v = (c4 .loop .inv) in let i = (c4 .loop .i) in (omega (arith, (c3 .loop-test)), omega (arith, (c .after .ensures) .1, v .1), λ l h. gathers-next _ i (v .2 l h) (h i (c3 .loop-test .taken)) (c1 .gather .ensures) ((c .after .ensures) .0) (omega (arith, (c5 .pre), (c3 .loop-test), v .1))))
     (λ c. let v = (c .before .loop .inv) in (omega (arith, v .0, v .1), λ l h. gathers-all _ (v .2 l h) (v .0) (c .loop-test .left))))

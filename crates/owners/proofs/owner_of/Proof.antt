@@ -1,8 +1,7 @@
 use borrow.Author.Needs.{needs}
 use native.Mathlib.Omega.{arith}
 use Prim.Native.Nat.{_+_, _-_}
-use mathlib.Core.Path.{_≡_, sym, _∙_}
-use mathlib.Core.Bool.{true, false}
+use mathlib.Core.Path.{sym, _∙_}
 use Rattle.model.proofs.OwnersTold.{too-short}
 use Rattle.owners.proofs.Search.{Searched, search-begins, search-on, search-hits, search-ends}
 use Rattle.owners.proofs.owner_of.Statement.{statement}
@@ -33,7 +32,9 @@ owned-by-requires : tie.Need-owned-by-requires Inv-loop μ-loop
 owned-by-requires c κs = search needs
 
 returns-3 : tie.Need-returns-3 Inv-loop μ-loop
-returns-3 c = c .owned-by .ensures ∙ search-hits (c .before .before .before .before .loop .inv) (search needs) (sym (c .before .before .within .ensures) ∙ c .before .if3 .taken)
+returns-3 c =
+    let c1 = c .before in let c2 = c1 .before in let c4 = c2 .before .before in
+    c .owned-by .ensures ∙ search-hits (c4 .loop .inv) (search needs) (sym (c2 .within .ensures) ∙ c1 .if3 .taken)
 
 add-k : tie.Need-add-k Inv-loop μ-loop
 add-k c = search needs

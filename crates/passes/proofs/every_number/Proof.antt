@@ -1,6 +1,5 @@
 use mathlib.Core.Path.{_∙_}
-use denote.Ref.{now}
-use Rattle.model.specs.Problem.{problem}
+use Rattle.model.specs.Lent.{held}
 use Rattle.model.proofs.Usable.{usable, usable-sizes}
 use Rattle.linear.proofs.Fitting.{usable-fits}
 use Rattle.passes.proofs.Accepted.{all-ready}
@@ -18,4 +17,8 @@ every-number-spec =
     (λ c κs. let u = usable _ (c .before .before .before .before .before .before .before .before .before .before .before .before .before .before .before .before .before .before .before .before .before .before .before .before .pre) in (u .sized, u .count .1, all-ready _ u))
     (λ c κs. search needs)
     (λ c κs. search needs)
-    (λ c. let a = (c .before .before .before .before .before .before .before .before .before .before .before .before .before .before .before .before .before .before .before .before .before .before .before .before .before .before .before .args) in let p = (problem (a .job) (a .os) (now (a .s)) (now (a .ca)) (now (a .cj)) (now (a .amax)) (now (a .aa)) (now (a .ab)) (now (a .ah)) (now (a .ja)) (now (a .jb)) (now (a .jc)) (now (a .jh)) (now (a .y)) (now (a .ta)) (now (a .tb)) (now (a .tg)) (now (a .r0)) (now (a .r1)) (now (a .pool))) in rw (← (c .before .both .ensures)) (c .both2 .ensures) ∙ every-scanned p (usable-sizes p (usable p (c .before .before .before .before .before .before .before .before .before .before .before .before .before .before .before .before .before .before .before .before .before .before .before .before .before .before .before .pre))) (c .before .before .before .before .ab-costs .ensures) (c .before .before .before .standard-rows .ensures) (c .before .before .objectives .ensures)))
+    (λ c. let c1 = c .before in let c2 = c1 .before in let c3 = c2 .before in let c4 = c3 .before in
+    let c27 = c4 .before .before .before .before .before .before .before .before .before .before .before .before .before .before .before .before .before .before .before .before .before .before .before in
+    let a = (c27 .args) in
+    let p = (held (a .job) (a .objectives) (a .grid) (a .acc-rows) (a .jerk-rows) (a .amax) (a .acc-a) (a .acc-b) (a .acc-max) (a .jerk-a) (a .jerk-b) (a .jerk-c) (a .jerk-max) (a .thermal) (a .torque-a) (a .torque-b) (a .torque-g) (a .start-roots) (a .end-roots) (a .pool)) in
+    rw (← (c1 .both .ensures)) (c .both2 .ensures) ∙ every-scanned p (usable-sizes p (usable p (c27 .pre))) (c4 .ab-costs .ensures) (c3 .standard-rows .ensures) (c2 .objectives .ensures)))

@@ -38,18 +38,20 @@ front s s₀ from n i e same moved =
 
 returns : tie.Need-returns Inv-loop μ-loop
 returns c =
-    let s₀ = c .before .before .args .s .now in
-    let from = c .before .before .args .from in
-    front (c .before .loop .s) s₀ from (length s₀ - from) (c .before .loop .i) (omega arith) (c .before .loop .inv .0) (c .before .loop .inv .1)
+    let c1 = c .before in let c2 = c1 .before in
+    let s₀ = c2 .args .s .now in
+    let from = c2 .args .from in
+    front (c1 .loop .s) s₀ from (length s₀ - from) (c1 .loop .i) (omega arith) (c1 .loop .inv .0) (c1 .loop .inv .1)
 
 loop-again : tie.Need-loop-again Inv-loop μ-loop
 unfolding after
 loop-again c =
-    let s = c .before .before .loop .s in
-    let s₀ = c .before .before .before .args .s .now in
-    let from = c .before .before .before .args .from in
-    let i = c .before .before .loop .i in
-    let inv = c .before .before .loop .inv in
+    let c2 = c .before .before in let c3 = c2 .before in
+    let s = c2 .loop .s in
+    let s₀ = c3 .args .s .now in
+    let from = c3 .args .from in
+    let i = c2 .loop .i in
+    let inv = c2 .loop .inv in
     let room : i < length s = omega arith in
     (simp length-set (inv .0), before-next s s₀ from i room (inv .1) (inv .2), from-next s s₀ from i room (inv .1) (inv .2))
 

@@ -16,7 +16,9 @@ slice-aggregate-move-to-front : tie.Need-slice-aggregate-move-to-front
 slice-aggregate-move-to-front c = sym (length-take-le _ _ (c .before .before .before .before .pre))
 
 sub-t12 : tie.Need-sub-t12
-sub-t12 c = omega (arith, length-take-le (c .before .before .before .before .before .before .before .before .args .end) ((c .before .before .before .before .before .before .before .before .args .list) .now) (c .before .before .before .before .before .before .before .before .pre), (c .before .before .before .before .before .replay-piece .ensures))
+sub-t12 c =
+    let c5 = c .before .before .before .before .before in let c8 = c5 .before .before .before in
+    omega (arith, length-take-le (c8 .args .end) ((c8 .args .list) .now) (c8 .pre), (c5 .replay-piece .ensures))
 
 rest-kept : (l tail e : List ℕ) (end from : ℕ) → length e ≡ end → length l ≡ length e → from ≤ length e → take (length e - from) l ≡ drop from e → take (end - from) (l ++ tail) ≡ drop (end - (end - from)) e
 rest-kept l tail e end from all same within moved =
@@ -25,9 +27,10 @@ rest-kept l tail e end from all same within moved =
 
 returns : tie.Need-returns
 returns c =
-    let start = c .before .before .before .before .before .before .before .before in
-    let moved = c .before .before .before .move-to-front in
-    (omega arith, rest-kept _ _ (take (start .args .end) (start .args .list .now)) _ _ (length-take-le _ _ (start .pre)) (moved .kept .0) (c .before .before .before .before .before .replay-piece .ensures) (moved .ensures))
+    let c3 = c .before .before .before in let c5 = c3 .before .before in let c8 = c5 .before .before .before in
+    let start = c8 in
+    let moved = c3 .move-to-front in
+    (omega arith, rest-kept _ _ (take (start .args .end) (start .args .list .now)) _ _ (length-take-le _ _ (start .pre)) (moved .kept .0) (c5 .replay-piece .ensures) (moved .ensures))
 
 pub replay-held-spec : {M : Type 1} → statement M
 replay-held-spec =

@@ -20,8 +20,9 @@ ends-within l {n} {end} e h t = omega (arith, leb-true end l (sym h ∙ t))
 
 loop-again : tie.Need-loop-again Inv-loop μ-loop
 loop-again c =
-    let told = c .before .before .before .before .before .replay-case .ensures in
-    ends-within (length (c .before .before .before .before .before .before .before .before .before .args .s .now)) (told .next-is) (told .whole-is) (not-false _ (c .before .before .before .if1 .left))
+    let c3 = c .before .before .before in let c5 = c3 .before .before in let c9 = c5 .before .before .before .before in
+    let told = c5 .replay-case .ensures in
+    ends-within (length (c9 .args .s .now)) (told .next-is) (told .whole-is) (not-false _ (c3 .if1 .left))
 
 pub replay-piece-spec : {M : Type 1} → statement M
 replay-piece-spec =

@@ -14,7 +14,9 @@ jerk-inside-spec =
     (λ c. search needs)
     (λ c. search needs)
     (λ c. omega (arith, (c .shared-slice-known2 .given) (c .before .before .args .last)))
-    (λ c. omega (arith, (c .before .before .pre), (c .before .shared-slice-known .given) (c .before .before .args .first)))
-    (λ c. omega (arith, (c .before .before .pre), (c .before .shared-slice-known .given) (c .before .before .args .first)))
-    (λ c. omega (arith, (c .before .before .pre), (c .before .shared-slice-known .given) (c .before .before .args .first), (c .shared-slice-known2 .given) (c .before .before .args .last)))
-    (λ c. (refl, omega (arith, (c .before .before .pre), (c .before .shared-slice-known .given) (c .before .before .args .first), (c .shared-slice-known2 .given) (c .before .before .args .last)))))
+    (λ c. let c1 = c .before in let c2 = c1 .before in omega (arith, (c2 .pre), (c1 .shared-slice-known .given) (c2 .args .first)))
+    (λ c. let c1 = c .before in let c2 = c1 .before in omega (arith, (c2 .pre), (c1 .shared-slice-known .given) (c2 .args .first)))
+    (λ c. let c1 = c .before in let c2 = c1 .before in
+    omega (arith, (c2 .pre), (c1 .shared-slice-known .given) (c2 .args .first), (c .shared-slice-known2 .given) (c2 .args .last)))
+    (λ c. let c1 = c .before in let c2 = c1 .before in
+    (refl, omega (arith, (c2 .pre), (c1 .shared-slice-known .given) (c2 .args .first), (c .shared-slice-known2 .given) (c2 .args .last)))))

@@ -21,7 +21,8 @@ measure-spec =
     (λ c κs. search needs)
     (λ c κs. search needs)
     (λ c. let a = (c .before .before .before .before .before .before .before .before .args) in omega (arith, (c .before .end-upper .ensures), (c .end-upper2 .ensures), flag-upper (a .ends .n0) (a .start .maximum), flag-upper (a .ends .n1) (a .end .maximum)))
-    (λ c. let a = (c .before .before .before .before .before .before .before .before .before .args) in omega (arith, (c .before .before .before .before .sums-inside .ensures), (c .before .before .end-upper .ensures), (c .before .end-upper2 .ensures), flag-upper (a .ends .n0) (a .start .maximum), flag-upper (a .ends .n1) (a .end .maximum)))
+    (λ c. let c1 = c .before in let c2 = c1 .before in let c4 = c2 .before .before in let c9 = c4 .before .before .before .before .before in
+    let a = (c9 .args) in omega (arith, (c4 .sums-inside .ensures), (c2 .end-upper .ensures), (c1 .end-upper2 .ensures), flag-upper (a .ends .n0) (a .start .maximum), flag-upper (a .ends .n1) (a .end .maximum)))
     (λ c κs. search needs)
     (λ c κs. search needs)
     (λ c. omega (arith, (c .before .flag .ensures), (c .flag2 .ensures)))
@@ -32,4 +33,22 @@ measure-spec =
     (λ c. omega (arith, (c .before .before .before .before .before .before .before .before .before .before .before .before .before .pre), (c .before .larger .ensures), (c .larger2 .ensures)))
     (λ c. omega (arith, (c .before .before .before .before .before .before .before .before .before .before .before .before .before .pre)))
     (λ c. omega (arith, (c .before .before .before .before .before .before .before .before .before .before .before .before .before .pre)))
-    (λ c. let a = (c .before .before .before .before .before .before .before .before .before .before .before .before .before .args) in let g = now (a .grid) in let span : a .ends .n0 + a .ends .n1 < length g - 1 = omega (arith, (c .before .before .before .before .before .before .before .before .before .before .before .before .before .pre)) in (measured (record { grid = g; N0 = a .ends .n0; N1 = a .ends .n1 }) span (a .d) (record { start = a .start; end = a .end; amax = now (a .amax) }) (now (a .acc-rows)) (now (a .jerk-rows)) (c .before .before .before .flag .ensures) (c .before .before .flag2 .ensures) (c .before .larger .ensures) (c .larger2 .ensures) (uppers-is (record { grid = g; N0 = a .ends .n0; N1 = a .ends .n1 }) span (record { start = a .start; end = a .end; amax = now (a .amax) }) (c .before .before .before .before .before .before .end-upper .ensures) (c .before .before .before .before .before .end-upper2 .ensures) (c .before .before .before .before .before .before .before .before .sums-inside .ensures .0)) (acc-is (record { grid = g; N0 = a .ends .n0; N1 = a .ends .n1 }) span (now (a .acc-rows)) (c .before .before .before .before .before .before .before .before .sums-inside .ensures .1)) (jerk-is (record { grid = g; N0 = a .ends .n0; N1 = a .ends .n1 }) span (now (a .jerk-rows)) (c .before .before .before .before .before .before .before .before .sums-inside .ensures .2) (c .before .before .before .before .before .before .before .jerk-inside .ensures .0)), (omega (arith, (c .before .before .before .before .before .before .before .before .before .before .before .before .before .pre)), omega (arith, (c .before .before .before .before .before .before .before .before .before .before .before .before .before .pre)), omega (arith, (c .before .before .before .before .before .before .before .before .before .before .before .before .before .pre)), omega (arith, (c .before .before .before .flag .ensures), (c .before .before .flag2 .ensures)), omega (arith, (c .before .before .before .before .before .before .before .before .before .before .before .before .before .pre), (c .before .larger .ensures), (c .larger2 .ensures)), omega (arith, (c .before .before .before .before .before .before .before .before .sums-inside .ensures), (c .before .before .before .before .before .before .end-upper .ensures), (c .before .before .before .before .before .end-upper2 .ensures), flag-upper (a .ends .n0) (a .start .maximum), flag-upper (a .ends .n1) (a .end .maximum)), omega (arith, (c .before .before .before .before .before .before .before .before .sums-inside .ensures)), omega (arith, (c .before .before .before .before .before .before .before .jerk-inside .ensures))))))
+    (λ c. let c1 = c .before in let c2 = c1 .before in let c3 = c2 .before in let c5 = c3 .before .before in let c6 = c5 .before in let c7 = c6 .before in
+    let c8 = c7 .before in let c13 = c8 .before .before .before .before .before in
+    let a = (c13 .args) in let g = now (a .grid) in let span : a .ends .n0 + a .ends .n1 < length g - 1 = omega (arith, (c13 .pre)) in (
+      measured (record { grid = g; N0 = a .ends .n0; N1 = a .ends .n1 }) span (a .d) (record { start = a .start; end = a .end; amax = now (a .amax) }) (now (a .acc-rows)) (now (a .jerk-rows)) (c3 .flag .ensures) (c2 .flag2 .ensures)
+          (c1 .larger .ensures) (c .larger2 .ensures)
+          (uppers-is (record { grid = g; N0 = a .ends .n0; N1 = a .ends .n1 }) span (record { start = a .start; end = a .end; amax = now (a .amax) }) (c6 .end-upper .ensures) (c5 .end-upper2 .ensures) (c8 .sums-inside .ensures .0))
+          (acc-is (record { grid = g; N0 = a .ends .n0; N1 = a .ends .n1 }) span (now (a .acc-rows)) (c8 .sums-inside .ensures .1))
+          (jerk-is (record { grid = g; N0 = a .ends .n0; N1 = a .ends .n1 }) span (now (a .jerk-rows)) (c8 .sums-inside .ensures .2) (c7 .jerk-inside .ensures .0)),
+      (
+        omega (arith, (c13 .pre)),
+        omega (arith, (c13 .pre)),
+        omega (arith, (c13 .pre)),
+        omega (arith, (c3 .flag .ensures), (c2 .flag2 .ensures)),
+        omega (arith, (c13 .pre), (c1 .larger .ensures), (c .larger2 .ensures)),
+        omega (arith, (c8 .sums-inside .ensures), (c6 .end-upper .ensures), (c5 .end-upper2 .ensures), flag-upper (a .ends .n0) (a .start .maximum), flag-upper (a .ends .n1) (a .end .maximum)),
+        omega (arith, (c8 .sums-inside .ensures)),
+        omega (arith, (c7 .jerk-inside .ensures)),
+      ),
+    )))

@@ -10,7 +10,7 @@ enum-told c = search needs
 
 returns : tie.Need-returns
 unfolding objectiveCounts
-returns c = (λ p e. rw ((c .before .before .before .enum-told .given .1), e), omega (arith, (c .before .before .before .before .before .pre)))
+returns c = let c3 = c .before .before .before in let c5 = c3 .before .before in (λ p e. rw ((c3 .enum-told .given .1), e), omega (arith, (c5 .pre)))
 
 returns-2 : tie.Need-returns-2
 unfolding objectiveCounts

@@ -27,8 +27,14 @@ objectives-counts-spec =
     (λ c. omega arith)
     (λ c. omega arith)
     (λ c κs. (c .before .before .before .pre .1))
-    (λ c κs. omega (arith, (c .before .before .before .before .pre), (c .before .before .before .loop .inv .2), (c .before .before .loop-test), (c .objective-counts .ensures .1)))
+    (λ c κs. let c2 = c .before .before in let c3 = c2 .before in let c4 = c3 .before in
+    omega (arith, (c4 .pre), (c3 .loop .inv .2), (c2 .loop-test), (c .objective-counts .ensures .1)))
     (λ c. search needs)
     (λ c. search needs)
-    (λ c. (omega arith, (λ p e. one-more p _ _ (omega (arith, (c .before .before .before .before .before .good), (c .before .before .before .before .before .pre))) _ _ ((c .before .before .before .before .loop .inv .1) p e) (c .before .before .before .loop-test .taken) ((c .before .objective-counts .ensures .0) p e) (c .sum .ensures)), omega (arith, (c .before .before .before .before .loop .inv .2), (c .before .objective-counts .ensures .1), ap (λ (x : FourCounts). x .entries) (c .sum .ensures), ap (λ (x : FourCounts). x .rows) (c .sum .ensures), ap (λ (x : FourCounts). x .cones) (c .sum .ensures), ap (λ (x : FourCounts). x .columns) (c .sum .ensures))))
-    (λ c. ((λ p e. all-counted p _ _ (omega (arith, (c .before .before .good), (c .before .before .pre))) _ _ ((c .before .loop .inv .1) p e) (c .loop-test .left)), omega (arith, (c .before .before .pre), (c .before .loop .inv .2), (c .before .loop .inv .0)))))
+    (λ c. let c1 = c .before in let c3 = c1 .before .before in let c4 = c3 .before in let c5 = c4 .before in (
+      omega arith,
+      (λ p e. one-more p _ _ (omega (arith, (c5 .good), (c5 .pre))) _ _ ((c4 .loop .inv .1) p e) (c3 .loop-test .taken) ((c1 .objective-counts .ensures .0) p e) (c .sum .ensures)),
+      omega (arith, (c4 .loop .inv .2), (c1 .objective-counts .ensures .1), ap (λ (x : FourCounts). x .entries) (c .sum .ensures), ap (λ (x : FourCounts). x .rows) (c .sum .ensures), ap (λ (x : FourCounts). x .cones) (c .sum .ensures), ap (λ (x : FourCounts). x .columns) (c .sum .ensures)),
+    ))
+    (λ c. let c1 = c .before in let c2 = c1 .before in
+    ((λ p e. all-counted p _ _ (omega (arith, (c2 .good), (c2 .pre))) _ _ ((c1 .loop .inv .1) p e) (c .loop-test .left)), omega (arith, (c2 .pre), (c1 .loop .inv .2), (c1 .loop .inv .0)))))

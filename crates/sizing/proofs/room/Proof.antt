@@ -28,4 +28,6 @@ room-spec =
     (λ c κs. search needs)
     (λ c κs. search needs)
     (λ c κs. search needs)
-    (λ c. roomy _ _ (both (c .first-of6 .ensures) (both (c .before .before .before .before .before .before .before .before .first-of2 .ensures) (c .before .before .before .before .before .before .before .before .before .before .before .before .short .ensures) (both (c .before .before .before .before .before .before .before .before .before .first-of .ensures) (c .before .before .before .before .before .before .before .before .before .before .before .short2 .ensures) (c .before .before .before .before .before .before .before .before .before .before .short3 .ensures))) (both (c .before .first-of5 .ensures) (c .before .before .before .before .short6 .ensures) (both (c .before .before .first-of4 .ensures) (both (c .before .before .before .before .before .first-of3 .ensures) (c .before .before .before .before .before .before .before .short4 .ensures) (c .before .before .before .before .before .before .short5 .ensures)) (c .before .before .before .short7 .ensures))))))
+    (λ c. let c1 = c .before in let c2 = c1 .before in let c3 = c2 .before in let c4 = c3 .before in let c5 = c4 .before in let c6 = c5 .before in let c7 = c6 .before in
+    let c8 = c7 .before in let c9 = c8 .before in let c10 = c9 .before in let c11 = c10 .before in let c12 = c11 .before in
+    roomy _ _ (both (c .first-of6 .ensures) (both (c8 .first-of2 .ensures) (c12 .short .ensures) (both (c9 .first-of .ensures) (c11 .short2 .ensures) (c10 .short3 .ensures))) (both (c1 .first-of5 .ensures) (c4 .short6 .ensures) (both (c2 .first-of4 .ensures) (both (c5 .first-of3 .ensures) (c7 .short4 .ensures) (c6 .short5 .ensures)) (c3 .short7 .ensures))))))

@@ -6,7 +6,7 @@ use Rattle.sizing.proofs.root_counts.Tie as tie
 
 returns : tie.Need-returns
 unfolding rootCounts
-returns c = (λ p e f. rw (sym f ∙ (c .before .before .before .if1 .taken), e), omega (arith, (c .before .before .before .before .pre)))
+returns c = let c3 = c .before .before .before in let c4 = c3 .before in (λ p e f. rw (sym f ∙ (c3 .if1 .taken), e), omega (arith, (c4 .pre)))
 
 returns-2 : tie.Need-returns-2
 unfolding rootCounts

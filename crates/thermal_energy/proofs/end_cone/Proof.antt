@@ -7,7 +7,10 @@ use Rattle.thermal_energy.proofs.end_cone.Tie as tie
 
 returns : tie.Need-returns
 unfolding thermalCone
-returns c = closes (c .before .before .before .before .before .before .before .before .before .before .before .before .before .before .before .before .before .end-rows .ensures) (c .before .before .before .before .put-cone .ensures) (omega (arith, (c .before .before .before .before .before .before .before .before .before .before .before .before .before .before .before .before .before .end-rows .ensures .moves))) (omega arith)
+returns c =
+    let c4 = c .before .before .before .before in
+    let c17 = c4 .before .before .before .before .before .before .before .before .before .before .before .before .before in
+    closes (c17 .end-rows .ensures) (c4 .put-cone .ensures) (omega (arith, (c17 .end-rows .ensures .moves))) (omega arith)
 
 pub end-cone-spec : {M : Type 1} → statement M
 end-cone-spec =
@@ -15,7 +18,9 @@ end-cone-spec =
     (tie.spec
     (λ c κs. search needs)
     (λ c. search needs)
-    (λ c κs. omega (arith, (c .before .before .before .before .before .before .before .before .before .before .before .before .before .before .before .before .before .before .before .before .before .before .before .before .before .before .before .before .pre) .0, (c .before .before .before .before .before .before .before .before .before .before .before .before .end-rows .ensures .moves)))
+    (λ c κs. let c12 = c .before .before .before .before .before .before .before .before .before .before .before .before in
+    let c28 = c12 .before .before .before .before .before .before .before .before .before .before .before .before .before .before .before .before in
+    omega (arith, (c28 .pre) .0, (c12 .end-rows .ensures .moves)))
     (λ c. search needs)
     (λ c. search needs)
     (λ c. search needs)

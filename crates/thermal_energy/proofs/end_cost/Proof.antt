@@ -12,4 +12,5 @@ end-cost-spec =
     (λ c κs. search needs)
     (λ c κs. search needs)
     (λ c. search needs)
-    (λ c. cost-all (cost-more cost-none (c .before .before .put-cost .ensures) (c .before .before .before .weighted .ensures)) (omega (arith, (c .before .before .before .before .before .if1 .left))) (omega (arith, (c .before .before .before .before .before .if1 .left)))))
+    (λ c. let c2 = c .before .before in let c3 = c2 .before in let c5 = c3 .before .before in
+    cost-all (cost-more cost-none (c2 .put-cost .ensures) (c3 .weighted .ensures)) (omega (arith, (c5 .if1 .left))) (omega (arith, (c5 .if1 .left)))))

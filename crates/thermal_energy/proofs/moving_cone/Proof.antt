@@ -7,7 +7,10 @@ use Rattle.thermal_energy.proofs.moving_cone.Tie as tie
 
 returns : tie.Need-returns
 unfolding thermalCone
-returns c = closes (c .before .before .before .before .before .before .before .before .before .before .before .before .before .before .before .before .before .moving-rows .ensures) (c .before .before .before .before .put-cone .ensures) (omega (arith, (c .before .before .before .before .before .before .before .before .before .before .before .before .before .before .before .before .before .moving-rows .ensures .moves))) (omega arith)
+returns c =
+    let c4 = c .before .before .before .before in
+    let c17 = c4 .before .before .before .before .before .before .before .before .before .before .before .before .before in
+    closes (c17 .moving-rows .ensures) (c4 .put-cone .ensures) (omega (arith, (c17 .moving-rows .ensures .moves))) (omega arith)
 
 pub moving-cone-spec : {M : Type 1} → statement M
 moving-cone-spec =
@@ -15,7 +18,9 @@ moving-cone-spec =
     (tie.spec
     (λ c κs. search needs)
     (λ c. search needs)
-    (λ c κs. omega (arith, (c .before .before .before .before .before .before .before .before .before .before .before .before .before .before .before .before .before .before .before .before .before .before .before .before .before .before .before .before .pre) .0, (c .before .before .before .before .before .before .before .before .before .before .before .before .moving-rows .ensures .moves)))
+    (λ c κs. let c12 = c .before .before .before .before .before .before .before .before .before .before .before .before in
+    let c28 = c12 .before .before .before .before .before .before .before .before .before .before .before .before .before .before .before .before in
+    omega (arith, (c28 .pre) .0, (c12 .moving-rows .ensures .moves)))
     (λ c. search needs)
     (λ c. search needs)
     (λ c. search needs)

@@ -9,10 +9,10 @@ use Rattle.thermal_energy.proofs.right_end.Statement.{statement}
 use Rattle.thermal_energy.proofs.right_end.Tie as tie
 
 abbrev Inv-loop : tie.InvT-loop
-Inv-loop right₀ tg scales d k z u₀ i₀ right u i = (i ≤ d) × FillsRight u₀ right₀ u right (λ j. neg (scaledAt tg scales d k j ⊕ scaledAt tg scales d z j)) i
+Inv-loop right₀ torque-g scales d k z u₀ i₀ right u i = (i ≤ d) × FillsRight u₀ right₀ u right (λ j. neg (scaledAt torque-g scales d k j ⊕ scaledAt torque-g scales d z j)) i
 
 abbrev μ-loop : tie.MeasureT-loop
-μ-loop right₀ tg scales d k z u₀ i₀ right u i = d - i
+μ-loop right₀ torque-g scales d k z u₀ i₀ right u i = d - i
 
 pub right-end-spec : {M : Type 1} → statement M
 right-end-spec =
@@ -26,6 +26,7 @@ right-end-spec =
     (λ c κs. search stage)
     (λ c. search stage)
     (λ c. search stage)
-    (λ c. (omega (arith, (c .before .before .before .before .before .before .loop-test)), right-more ((c .before .before .before .before .before .before .before .loop .inv) .1) (c .before .before .put-right .ensures) (λ x. neg ((c .before .before .before .before .before .scaled .ensures) x ⊕ (c .before .before .before .before .scaled2 .ensures) x))))
+    (λ c. let c2 = c .before .before in let c4 = c2 .before .before in let c5 = c4 .before in let c6 = c5 .before in let c7 = c6 .before in
+    (omega (arith, (c6 .loop-test)), right-more ((c7 .loop .inv) .1) (c2 .put-right .ensures) (λ x. neg ((c5 .scaled .ensures) x ⊕ (c4 .scaled2 .ensures) x))))
     (λ c. search stage)
     (λ c. search stage))

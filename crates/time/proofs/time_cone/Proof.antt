@@ -7,7 +7,10 @@ use Rattle.time.proofs.time_cone.Tie as tie
 
 returns : tie.Need-returns
 unfolding timeCone
-returns c = closes (c .before .before .before .before .before .before .before .before .before .before .before .before .before .before .before .before .before .time-rows .ensures) (c .before .before .before .before .put-cone .ensures) (omega (arith, (c .before .before .before .before .before .before .before .before .before .before .before .before .before .before .before .before .before .time-rows .ensures .moves))) (omega arith)
+returns c =
+    let c4 = c .before .before .before .before in
+    let c17 = c4 .before .before .before .before .before .before .before .before .before .before .before .before .before in
+    closes (c17 .time-rows .ensures) (c4 .put-cone .ensures) (omega (arith, (c17 .time-rows .ensures .moves))) (omega arith)
 
 pub time-cone-spec : {M : Type 1} → statement M
 time-cone-spec =
@@ -15,7 +18,9 @@ time-cone-spec =
     (tie.spec
     (λ c κs. search needs)
     (λ c. search needs)
-    (λ c κs. omega (arith, (c .before .before .before .before .before .before .before .before .before .before .before .before .before .before .before .before .before .before .before .before .before .before .before .before .pre) .0, (c .before .before .before .before .before .before .before .before .before .before .before .before .time-rows .ensures .moves)))
+    (λ c κs. let c12 = c .before .before .before .before .before .before .before .before .before .before .before .before in
+    let c24 = c12 .before .before .before .before .before .before .before .before .before .before .before .before in
+    omega (arith, (c24 .pre) .0, (c12 .time-rows .ensures .moves)))
     (λ c. search needs)
     (λ c. search needs)
     (λ c. search needs)

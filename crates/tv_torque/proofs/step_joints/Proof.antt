@@ -7,10 +7,10 @@ use Rattle.tv_torque.proofs.step_joints.Statement.{statement}
 use Rattle.tv_torque.proofs.step_joints.Tie as tie
 
 abbrev Inv-loop : tie.InvT-loop
-Inv-loop rows₀ cols₀ vals₀ right₀ s e ta tb tg scales d col k u₀ i₀ rows cols vals right u i = (i ≤ d) × Overs u₀ rows₀ cols₀ vals₀ right₀ u rows cols vals right (stepsOf s e ta tb tg scales d (col .at) k) 0 i 2
+Inv-loop rows₀ columns₀ values₀ right₀ grid ends torque-a torque-b torque-g scales d col k u₀ i₀ rows columns values right u i = (i ≤ d) × Overs u₀ rows₀ columns₀ values₀ right₀ u rows columns values right (stepsOf grid ends torque-a torque-b torque-g scales d (col .at) k) 0 i 2
 
 abbrev μ-loop : tie.MeasureT-loop
-μ-loop rows₀ cols₀ vals₀ right₀ s e ta tb tg scales d col k u₀ i₀ rows cols vals right u i = d - i
+μ-loop rows₀ columns₀ values₀ right₀ grid ends torque-a torque-b torque-g scales d col k u₀ i₀ rows columns values right u i = d - i
 
 pub step-joints-spec : {M : Type 1} → statement M
 step-joints-spec =
@@ -19,10 +19,15 @@ step-joints-spec =
     Inv-loop
     μ-loop
     (λ c. (omega arith, overs-none))
-    (λ c κs. omega (arith, (c .before .before .before .before .before .before .before .before .before .before .before .before .before .before .before .pre), (c .before .before .before .before .before .loop .inv .0), (c .before .before .before .before .before .loop .inv .1 .wrote .moves), (c .before .before .before .before .loop-test)))
-    (λ c. omega (arith, (c .before .before .before .before .before .before .before .before .before .before .before .before .before .before .before .before .before .before .before .before .before .before .before .before .pre), (c .before .before .before .before .before .before .before .before .before .before .before .before .before .loop-test)))
+    (λ c κs. let c4 = c .before .before .before .before in let c5 = c4 .before in
+    let c15 = c5 .before .before .before .before .before .before .before .before .before .before in
+    omega (arith, (c15 .pre), (c5 .loop .inv .0), (c5 .loop .inv .1 .wrote .moves), (c4 .loop-test)))
+    (λ c. let c13 = c .before .before .before .before .before .before .before .before .before .before .before .before .before in
+    let c24 = c13 .before .before .before .before .before .before .before .before .before .before .before in
+    omega (arith, (c24 .pre), (c13 .loop-test)))
     (λ c. search turns)
-    (λ c. (omega (arith, (c .before .before .before .before .before .before .before .before .before .before .before .before .before .loop-test)), overs-next ((c .before .before .before .before .before .before .before .before .before .before .before .before .before .before .loop .inv) .1) (c .before .before .before .before .before .before .before .before .step-rows .ensures)))
+    (λ c. let c8 = c .before .before .before .before .before .before .before .before in let c13 = c8 .before .before .before .before .before in let c14 = c13 .before in
+    (omega (arith, (c13 .loop-test)), overs-next ((c14 .loop .inv) .1) (c8 .step-rows .ensures)))
     (λ c. search turns)
     (λ c. search turns)
     (λ c. search turns)

@@ -1,6 +1,6 @@
 -- `replay_list::case::assembly_agrees` meets its contract: the comparison is of the lent buffers, which are the front of the arrays here.
 use Rattle.replay_list.proofs.Laws.{counted, at-most}
-use Rattle.passes.specs.Program.{buffers}
+use Rattle.model.specs.Answers.{buffers}
 use Rattle.replay_list.proofs.Called.{lent, result-agrees}
 use lib.ListN.{take, drop, replicate}
 use lib.Ieee.{binary64, ofBits}
@@ -73,14 +73,38 @@ slice-aggregate-assemble-8 c =
 
 returns : tie.Need-returns
 returns c =
+    let c17 = c .before .before .before .before .before .before .before .before .before .before .before .before .before .before .before .before .before in
+    let c19 = c17 .before .before in let c21 = c19 .before .before in let c23 = c21 .before .before in let c25 = c23 .before .before in
+    let c27 = c25 .before .before in let c29 = c27 .before .before in let c31 = c29 .before .before in let c33 = c31 .before .before in
+    let c35 = c33 .before .before in
     λ e.
     result-agrees _ _ _ _ _ _ _
-    (buffers (take ((c .before .before .before .before .before .before .before .before .before .before .before .before .before .before .before .before .before .before .before .before .before .before .before .before .before .before .before .before .before .before .before .before .before .item .result)) (replicate 128 2779096485)) (take ((c .before .before .before .before .before .before .before .before .before .before .before .before .before .before .before .before .before .before .before .before .before .before .before .before .before .before .before .before .before .before .before .item2 .result)) (replicate 128 2779096485)) (take ((c .before .before .before .before .before .before .before .before .before .before .before .before .before .before .before .before .before .before .before .before .before .before .before .before .before .before .before .before .before .item3 .result)) (replicate 128 (ofBits binary64 13876516240719085568))) (take ((c .before .before .before .before .before .before .before .before .before .before .before .before .before .before .before .before .before .before .before .before .before .before .before .before .before .before .before .item4 .result)) (replicate 128 (ofBits binary64 13876516240719085568))) (take ((c .before .before .before .before .before .before .before .before .before .before .before .before .before .before .before .before .before .before .before .before .before .before .before .before .before .item5 .result)) (replicate 128 165)) (take ((c .before .before .before .before .before .before .before .before .before .before .before .before .before .before .before .before .before .before .before .before .before .before .before .item6 .result)) (replicate 128 2779096485)) (take ((c .before .before .before .before .before .before .before .before .before .before .before .before .before .before .before .before .before .before .before .before .before .item7 .result)) (replicate 128 (ofBits binary64 13876516240719085568))) (take ((c .before .before .before .before .before .before .before .before .before .before .before .before .before .before .before .before .before .before .before .item8 .result)) (replicate 160 13876516240719085568)))
-    (buffers ((c .before .before .before .before .before .before .before .before .before .before .before .before .before .before .before .before .before .assemble .last) .1 .1 .1 .1 .1 .1 .0) ((c .before .before .before .before .before .before .before .before .before .before .before .before .before .before .before .before .before .assemble .last) .1 .1 .1 .1 .1 .1 .1 .0) ((c .before .before .before .before .before .before .before .before .before .before .before .before .before .before .before .before .before .assemble .last) .1 .1 .1 .1 .1 .1 .1 .1 .0) ((c .before .before .before .before .before .before .before .before .before .before .before .before .before .before .before .before .before .assemble .last) .1 .1 .1 .1 .1 .1 .1 .1 .1 .0) ((c .before .before .before .before .before .before .before .before .before .before .before .before .before .before .before .before .before .assemble .last) .1 .1 .1 .1 .1 .1 .1 .1 .1 .1 .0) ((c .before .before .before .before .before .before .before .before .before .before .before .before .before .before .before .before .before .assemble .last) .1 .1 .1 .1 .1 .1 .1 .1 .1 .1 .1 .0) ((c .before .before .before .before .before .before .before .before .before .before .before .before .before .before .before .before .before .assemble .last) .1 .1 .1 .1 .1 .1 .1 .1 .1 .1 .1 .1 .0) ((c .before .before .before .before .before .before .before .before .before .before .before .before .before .before .before .before .before .assemble .last) .1 .1 .1 .1 .1 .1 .1 .1 .1 .1 .1 .1 .1 .0))
-    (buffers (drop ((c .before .before .before .before .before .before .before .before .before .before .before .before .before .before .before .before .before .before .before .before .before .before .before .before .before .before .before .before .before .before .before .before .before .item .result)) (replicate 128 2779096485)) (drop ((c .before .before .before .before .before .before .before .before .before .before .before .before .before .before .before .before .before .before .before .before .before .before .before .before .before .before .before .before .before .before .before .item2 .result)) (replicate 128 2779096485)) (drop ((c .before .before .before .before .before .before .before .before .before .before .before .before .before .before .before .before .before .before .before .before .before .before .before .before .before .before .before .before .before .item3 .result)) (replicate 128 (ofBits binary64 13876516240719085568))) (drop ((c .before .before .before .before .before .before .before .before .before .before .before .before .before .before .before .before .before .before .before .before .before .before .before .before .before .before .before .item4 .result)) (replicate 128 (ofBits binary64 13876516240719085568))) (drop ((c .before .before .before .before .before .before .before .before .before .before .before .before .before .before .before .before .before .before .before .before .before .before .before .before .before .item5 .result)) (replicate 128 165)) (drop ((c .before .before .before .before .before .before .before .before .before .before .before .before .before .before .before .before .before .before .before .before .before .before .before .item6 .result)) (replicate 128 2779096485)) (drop ((c .before .before .before .before .before .before .before .before .before .before .before .before .before .before .before .before .before .before .before .before .before .item7 .result)) (replicate 128 (ofBits binary64 13876516240719085568))) (drop ((c .before .before .before .before .before .before .before .before .before .before .before .before .before .before .before .before .before .before .before .item8 .result)) (replicate 160 13876516240719085568)))
-    (c .before .before .before .before .before .before .before .before .before .before .before .before .before .before .before .before .before .before .before .before .before .before .before .before .before .before .before .before .before .before .before .before .before .before .before .pre)
-    (record { rows-lent = lent 2779096485 128 _ _ _ (c .before .before .before .before .before .before .before .before .before .before .before .before .before .before .before .before .before .before .before .before .before .before .before .before .before .before .before .before .before .before .before .before .before .item .ensures) ((c .before .before .before .before .before .before .before .before .before .before .before .before .before .before .before .before .before .before .before .before .before .before .before .before .before .before .before .before .before .before .before .before .before .before .before .pre) .rows-fit) ((c .before .before .before .before .before .before .before .before .before .before .before .before .before .before .before .before .before .assemble .kept) .1 .1 .1 .1 .1 .1 .0); columns-lent = lent 2779096485 128 _ _ _ (c .before .before .before .before .before .before .before .before .before .before .before .before .before .before .before .before .before .before .before .before .before .before .before .before .before .before .before .before .before .before .before .item2 .ensures) ((c .before .before .before .before .before .before .before .before .before .before .before .before .before .before .before .before .before .before .before .before .before .before .before .before .before .before .before .before .before .before .before .before .before .before .before .pre) .columns-fit) ((c .before .before .before .before .before .before .before .before .before .before .before .before .before .before .before .before .before .assemble .kept) .1 .1 .1 .1 .1 .1 .1 .0); values-lent = lent (ofBits binary64 13876516240719085568) 128 _ _ _ (c .before .before .before .before .before .before .before .before .before .before .before .before .before .before .before .before .before .before .before .before .before .before .before .before .before .before .before .before .before .item3 .ensures) ((c .before .before .before .before .before .before .before .before .before .before .before .before .before .before .before .before .before .before .before .before .before .before .before .before .before .before .before .before .before .before .before .before .before .before .before .pre) .values-fit) ((c .before .before .before .before .before .before .before .before .before .before .before .before .before .before .before .before .before .assemble .kept) .1 .1 .1 .1 .1 .1 .1 .1 .0); right-lent = lent (ofBits binary64 13876516240719085568) 128 _ _ _ (c .before .before .before .before .before .before .before .before .before .before .before .before .before .before .before .before .before .before .before .before .before .before .before .before .before .before .before .item4 .ensures) ((c .before .before .before .before .before .before .before .before .before .before .before .before .before .before .before .before .before .before .before .before .before .before .before .before .before .before .before .before .before .before .before .before .before .before .before .pre) .right-fit) ((c .before .before .before .before .before .before .before .before .before .before .before .before .before .before .before .before .before .assemble .kept) .1 .1 .1 .1 .1 .1 .1 .1 .1 .0); kinds-lent = lent 165 128 _ _ _ (c .before .before .before .before .before .before .before .before .before .before .before .before .before .before .before .before .before .before .before .before .before .before .before .before .before .item5 .ensures) ((c .before .before .before .before .before .before .before .before .before .before .before .before .before .before .before .before .before .before .before .before .before .before .before .before .before .before .before .before .before .before .before .before .before .before .before .pre) .kinds-fit) ((c .before .before .before .before .before .before .before .before .before .before .before .before .before .before .before .before .before .assemble .kept) .1 .1 .1 .1 .1 .1 .1 .1 .1 .1 .0); dimensions-lent = lent 2779096485 128 _ _ _ (c .before .before .before .before .before .before .before .before .before .before .before .before .before .before .before .before .before .before .before .before .before .before .before .item6 .ensures) ((c .before .before .before .before .before .before .before .before .before .before .before .before .before .before .before .before .before .before .before .before .before .before .before .before .before .before .before .before .before .before .before .before .before .before .before .pre) .dimensions-fit) ((c .before .before .before .before .before .before .before .before .before .before .before .before .before .before .before .before .before .assemble .kept) .1 .1 .1 .1 .1 .1 .1 .1 .1 .1 .1 .0); cost-lent = lent (ofBits binary64 13876516240719085568) 128 _ _ _ (c .before .before .before .before .before .before .before .before .before .before .before .before .before .before .before .before .before .before .before .before .before .item7 .ensures) ((c .before .before .before .before .before .before .before .before .before .before .before .before .before .before .before .before .before .before .before .before .before .before .before .before .before .before .before .before .before .before .before .before .before .before .before .pre) .cost-fit) ((c .before .before .before .before .before .before .before .before .before .before .before .before .before .before .before .before .before .assemble .kept) .1 .1 .1 .1 .1 .1 .1 .1 .1 .1 .1 .1 .0); index-lent = lent 13876516240719085568 160 _ _ _ (c .before .before .before .before .before .before .before .before .before .before .before .before .before .before .before .before .before .before .before .item8 .ensures) ((c .before .before .before .before .before .before .before .before .before .before .before .before .before .before .before .before .before .before .before .before .before .before .before .before .before .before .before .before .before .before .before .before .before .before .before .pre) .index-fit) ((c .before .before .before .before .before .before .before .before .before .before .before .before .before .before .before .before .before .assemble .kept) .1 .1 .1 .1 .1 .1 .1 .1 .1 .1 .1 .1 .1 .0) })
-    (c .before .before .before .before .before .before .before .before .before .before .before .before .before .before .before .before .before .assemble .ensures) ((c .result-agrees .ensures) e)
+    (buffers (take ((c33 .item .result)) (replicate 128 2779096485)) (take ((c31 .item2 .result)) (replicate 128 2779096485)) (take ((c29 .item3 .result)) (replicate 128 (ofBits binary64 13876516240719085568)))
+    (take ((c27 .item4 .result)) (replicate 128 (ofBits binary64 13876516240719085568))) (take ((c25 .item5 .result)) (replicate 128 165)) (take ((c23 .item6 .result)) (replicate 128 2779096485))
+    (take ((c21 .item7 .result)) (replicate 128 (ofBits binary64 13876516240719085568))) (take ((c19 .item8 .result)) (replicate 160 13876516240719085568)))
+    (buffers ((c17 .assemble .last) .1 .1 .1 .1 .1 .1 .0) ((c17 .assemble .last) .1 .1 .1 .1 .1 .1 .1 .0) ((c17 .assemble .last) .1 .1 .1 .1 .1 .1 .1 .1 .0) ((c17 .assemble .last) .1 .1 .1 .1 .1 .1 .1 .1 .1 .0)
+    ((c17 .assemble .last) .1 .1 .1 .1 .1 .1 .1 .1 .1 .1 .0) ((c17 .assemble .last) .1 .1 .1 .1 .1 .1 .1 .1 .1 .1 .1 .0) ((c17 .assemble .last) .1 .1 .1 .1 .1 .1 .1 .1 .1 .1 .1 .1 .0)
+    ((c17 .assemble .last) .1 .1 .1 .1 .1 .1 .1 .1 .1 .1 .1 .1 .1 .0))
+    (buffers (drop ((c33 .item .result)) (replicate 128 2779096485)) (drop ((c31 .item2 .result)) (replicate 128 2779096485)) (drop ((c29 .item3 .result)) (replicate 128 (ofBits binary64 13876516240719085568)))
+    (drop ((c27 .item4 .result)) (replicate 128 (ofBits binary64 13876516240719085568))) (drop ((c25 .item5 .result)) (replicate 128 165)) (drop ((c23 .item6 .result)) (replicate 128 2779096485))
+    (drop ((c21 .item7 .result)) (replicate 128 (ofBits binary64 13876516240719085568))) (drop ((c19 .item8 .result)) (replicate 160 13876516240719085568)))
+    (c35 .pre)
+    (record {
+      rows-lent = lent 2779096485 128 _ _ _ (c33 .item .ensures) ((c35 .pre) .rows-fit) ((c17 .assemble .kept) .1 .1 .1 .1 .1 .1 .0);
+      columns-lent = lent 2779096485 128 _ _ _ (c31 .item2 .ensures) ((c35 .pre) .columns-fit)
+          ((c17 .assemble .kept) .1 .1 .1 .1 .1 .1 .1 .0);
+      values-lent = lent (ofBits binary64 13876516240719085568) 128 _ _ _ (c29 .item3 .ensures) ((c35 .pre) .values-fit) ((c17 .assemble .kept) .1 .1 .1 .1 .1 .1 .1 .1 .0);
+      right-lent = lent
+          (ofBits binary64 13876516240719085568) 128 _ _ _ (c27 .item4 .ensures) ((c35 .pre) .right-fit) ((c17 .assemble .kept) .1 .1 .1 .1 .1 .1 .1 .1 .1 .0);
+      kinds-lent = lent 165 128 _ _ _ (c25 .item5 .ensures) ((c35 .pre) .kinds-fit)
+          ((c17 .assemble .kept) .1 .1 .1 .1 .1 .1 .1 .1 .1 .1 .0);
+      dimensions-lent = lent 2779096485 128 _ _ _ (c23 .item6 .ensures) ((c35 .pre) .dimensions-fit) ((c17 .assemble .kept) .1 .1 .1 .1 .1 .1 .1 .1 .1 .1 .1 .0);
+      cost-lent = lent
+          (ofBits binary64 13876516240719085568) 128 _ _ _ (c21 .item7 .ensures) ((c35 .pre) .cost-fit) ((c17 .assemble .kept) .1 .1 .1 .1 .1 .1 .1 .1 .1 .1 .1 .1 .0);
+      index-lent = lent 13876516240719085568 160 _ _ _ (c19 .item8 .ensures)
+          ((c35 .pre) .index-fit) ((c17 .assemble .kept) .1 .1 .1 .1 .1 .1 .1 .1 .1 .1 .1 .1 .1 .0);
+    })
+    (c17 .assemble .ensures) ((c .result-agrees .ensures) e)
 
 pub assembly-agrees-spec : {M : Type 1} → statement M
 assembly-agrees-spec =

@@ -8,7 +8,8 @@ use Rattle.replay_list.proofs.case.assembly_at.Tie as tie
 returns : tie.Need-returns
 unfolding assemblyAt
 returns c =
-    simp (eq-eqb _ _ (sym (c .before .before .before .before .before .before .item .ensures) ∙ (c .before .before .before .before .if1 .taken))) (cc)
+    let c4 = c .before .before .before .before in let c6 = c4 .before .before in
+    simp (eq-eqb _ _ (sym (c6 .item .ensures) ∙ (c4 .if1 .taken))) (cc)
 
 returns-2 : tie.Need-returns-2
 unfolding assemblyAt

@@ -20,8 +20,9 @@ abbrev μ-loop : tie.MeasureT-loop
 
 loop-again : tie.Need-loop-again Inv-loop μ-loop
 loop-again c =
-    below-more _ _ (c .before .before .before .before .before .loop .inv)
-    (c .before .has-bits .ensures (not-false _ (c .if1 .left)) .1 ∙ c .before .before .expected-bits .ensures)
+    let c1 = c .before in let c2 = c1 .before in let c5 = c2 .before .before .before in
+    below-more _ _ (c5 .loop .inv)
+    (c1 .has-bits .ensures (not-false _ (c .if1 .left)) .1 ∙ c2 .expected-bits .ensures)
 
 returns-2 : tie.Need-returns-2 Inv-loop μ-loop
 returns-2 c = λ e k h. c .before .loop .inv k (omega arith)

@@ -17,7 +17,9 @@ abbrev μ-loop : tie.MeasureT-loop
 μ-loop s at n found i₀ i = 160 - i
 
 loop-again : tie.Need-loop-again Inv-loop μ-loop
-loop-again c = below-more _ _ (c .before .before .before .before .before .loop .inv) (sym (c .before .before .wide .ensures) ∙ c .if1 .left ∙ c .before .expected-bits .ensures)
+loop-again c =
+    let c1 = c .before in let c2 = c1 .before in let c5 = c2 .before .before .before in
+    below-more _ _ (c5 .loop .inv) (sym (c2 .wide .ensures) ∙ c .if1 .left ∙ c1 .expected-bits .ensures)
 
 returns-2 : tie.Need-returns-2 Inv-loop μ-loop
 returns-2 c = λ e k h. c .before .loop .inv k (omega arith)

@@ -25,7 +25,9 @@ made s at h1 h2 h3 h4 h5 h6 h7 h8 h9 h10 h11 h12 = cc
 returns : tie.Need-returns
 unfolding jobAt
 returns c =
-    made _ _ (c .before .before .before .before .before .before .before .before .before .before .before .bound-at .ensures) (c .before .before .before .before .before .before .before .before .before .before .bound-at2 .ensures) (c .before .before .before .before .before .before .before .before .before .bound-at3 .ensures) (c .before .before .before .before .before .before .before .before .bound-at4 .ensures) (c .before .before .before .before .before .before .before .bound-at5 .ensures) (c .before .before .before .before .before .before .bound-at6 .ensures) (c .before .before .before .before .before .bound-at7 .ensures) (c .before .before .before .before .bound-at8 .ensures) (c .before .before .before .count-at .ensures) (c .before .before .count-at2 .ensures) (c .before .count-at3 .ensures) (c .count-at4 .ensures)
+    let c1 = c .before in let c2 = c1 .before in let c3 = c2 .before in let c4 = c3 .before in let c5 = c4 .before in let c6 = c5 .before in let c7 = c6 .before in
+    let c8 = c7 .before in let c9 = c8 .before in let c10 = c9 .before in let c11 = c10 .before in
+    made _ _ (c11 .bound-at .ensures) (c10 .bound-at2 .ensures) (c9 .bound-at3 .ensures) (c8 .bound-at4 .ensures) (c7 .bound-at5 .ensures) (c6 .bound-at6 .ensures) (c5 .bound-at7 .ensures) (c4 .bound-at8 .ensures) (c3 .count-at .ensures) (c2 .count-at2 .ensures) (c1 .count-at3 .ensures) (c .count-at4 .ensures)
 
 pub job-at-spec : {M : Type 1} → statement M
 job-at-spec =

@@ -5,7 +5,8 @@ use Rattle.replay_list.proofs.input.length_at.Tie as tie
 
 returns : tie.Need-returns
 returns c =
-    rw ((c .before .before .past2 .ensures), (c .before .before .before .past .ensures)) at ((c .size-of .ensures) ∙ (c .before .short-at .ensures))
+    let c1 = c .before in let c2 = c1 .before in let c3 = c2 .before in
+    rw ((c2 .past2 .ensures), (c3 .past .ensures)) at ((c .size-of .ensures) ∙ (c1 .short-at .ensures))
 
 pub length-at-spec : {M : Type 1} → statement M
 length-at-spec =

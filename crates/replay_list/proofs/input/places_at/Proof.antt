@@ -22,7 +22,9 @@ placed s at h1 h2 h3 h4 h5 h6 h7 h8 h9 h10 h11 h12 h13 = cc
 
 returns : tie.Need-returns
 returns c =
-    placed _ _ (started _ _ 1 _ (c .before .before .before .before .before .before .before .before .before .before .before .before .before .before .pre) (lit< tt)) (started _ _ 18 _ (c .before .before .before .before .before .before .before .before .before .before .before .before .before .before .pre) (lit< tt)) (c .before .before .before .before .before .before .before .before .before .before .before .before .past .ensures) (c .before .before .before .before .before .before .before .before .before .before .past2 .ensures) (c .before .before .before .before .before .before .before .before .before .length-at .ensures) (c .before .before .before .before .before .before .before .before .length-at2 .ensures) (c .before .before .before .before .before .before .before .past3 .ensures) (c .before .before .before .before .before .before .past4 .ensures) (c .before .before .before .before .past5 .ensures) (c .before .before .before .length-at3 .ensures) (c .before .before .past6 .ensures) (c .before .past7 .ensures) (c .past8 .ensures)
+    let c1 = c .before in let c2 = c1 .before in let c3 = c2 .before in let c4 = c3 .before in let c6 = c4 .before .before in let c7 = c6 .before in
+    let c8 = c7 .before in let c9 = c8 .before in let c10 = c9 .before in let c12 = c10 .before .before in let c14 = c12 .before .before in
+    placed _ _ (started _ _ 1 _ (c14 .pre) (lit< tt)) (started _ _ 18 _ (c14 .pre) (lit< tt)) (c12 .past .ensures) (c10 .past2 .ensures) (c9 .length-at .ensures) (c8 .length-at2 .ensures) (c7 .past3 .ensures) (c6 .past4 .ensures) (c4 .past5 .ensures) (c3 .length-at3 .ensures) (c2 .past6 .ensures) (c1 .past7 .ensures) (c .past8 .ensures)
 
 pub places-at-spec : {M : Type 1} → statement M
 places-at-spec =

@@ -22,8 +22,9 @@ abbrev μ-loop : tie.MeasureT-loop
 loop-again : tie.Need-loop-again Inv-loop μ-loop
 unfolding floatNumber
 loop-again c =
-    let l = (c .before .before .before .before .loop) in
-    (simp length-set (l .inv .0), stored nan _ (l .out) (l .i) _ (omega arith) (rw ((c .before .past .ensures), (c .before .before .either .ensures)) at (c .float-at .ensures)) (l .inv .1))
+    let c1 = c .before in let c2 = c1 .before in let c4 = c2 .before .before in
+    let l = (c4 .loop) in
+    (simp length-set (l .inv .0), stored nan _ (l .out) (l .i) _ (omega arith) (rw ((c1 .past .ensures), (c2 .either .ensures)) at (c .float-at .ensures)) (l .inv .1))
 
 returns : tie.Need-returns Inv-loop μ-loop
 returns c =

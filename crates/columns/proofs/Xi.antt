@@ -9,9 +9,6 @@ use Rattle.model.specs.Problem.{L}
 use Rattle.model.specs.declared.Ends.{Ends}
 use Rattle.buffers.specs.Inputs.{path}
 
-pub xi-most : (l a b : ℕ) → l - 1 + 1 - max a 1 - max b 1 ≤ l
-xi-most l a b = omega arith
-
 pub xi-in : (l a b j : ℕ) → j < l - 1 + 1 - max a 1 - max b 1 → max a 1 + j < l
 xi-in l a b j h = omega arith
 
@@ -28,3 +25,7 @@ xi-next l a b j h = omega arith
 -- there is one at least
 pub xi-some : (l a b x : ℕ) → x ≡ l - 1 + 1 - max a 1 - max b 1 → 2 < l → a + b + 1 < l → 0 < x
 xi-some l a b x e h g = omega arith
+
+-- the grid's length is n + 1
+pub stations : {l a b x y : ℕ} → 0 < l → x ≡ a → y ≡ b → l - x - y ≡ l - 1 + 1 - a - b
+stations {l} h e f = let g : l ≡ l - 1 + 1 = omega arith in λ i. g i - e i - f i

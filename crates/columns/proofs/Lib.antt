@@ -1,0 +1,2 @@
+pub mod Xi
+pub mod Cells
