@@ -20,7 +20,7 @@ use stages::thermal_energy_by_value as thermal_energy;
 use stages::time_by_value as time;
 use stages::total_variation_torque_by_value as tv_torque;
 
-// One objective. The buffers have the letters of crate buffers' `built`. Linear has no rows: what it adds to the cost stands there from the start.
+// One objective. Linear has no rows: what it adds to the cost stands there from the start.
 fn objective(
     t: Tally,
     rows: &mut [u32],

@@ -2,10 +2,10 @@
 // line: the group's letter, the number of cases, and in how many of them sizing and the assembly do
 // as the list says. A case that the input's end cuts off, or that is longer than a piece, ends the
 // run with `cut off`.
-ghost use Rattle.model.specs.Lent.{atEntry, atExit};
 ghost use mathlib.Core.Path.{_≡_};
 ghost use Prim.Native.Nat.{_-_, _≤_};
 ghost use lib.ListN.{length, take, drop};
+ghost use Rattle.model.specs.Lent.{atEntry, atExit};
 
 // The group that is being counted.
 struct Tally {
