@@ -4,11 +4,11 @@ use mathlib.Core.List.{List, [], _∷_}
 use Prim.Native.Nat.{ℕ, _+_, _≤_}
 use lib.Ieee.{Float, neg}
 use lib.ListN.{length, getD}
+use Rattle.model.specs.Refusals.{mostRows}
 use Rattle.model.specs.Numbers.{at, _⊕_, _⊖_, _⊗_}
 use Rattle.model.specs.Lists.{total}
 use Rattle.model.specs.Problem.{Acceleration, Jerk}
 use Rattle.model.specs.Program.{Band, band, cell}
-use Rattle.buffers.specs.Bounds.{mostRows}
 use Rattle.acc_jerk.specs.declared.Form.{Form}
 use Rattle.acc_jerk.specs.declared.Form.the-variants.{Back, Here, Ahead, Next}
 

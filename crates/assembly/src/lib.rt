@@ -4,6 +4,7 @@ ghost use mathlib.Core.Path.{_≡_};
 ghost use mathlib.Core.Bool.{not};
 ghost use Prim.Native.Nat.{_≤_};
 ghost use lib.Dec.{ltb};
+ghost use Rattle.model.specs.Refusals.{mostObjectives};
 ghost use Rattle.model.specs.Verdicts.{_then_, refuse};
 ghost use Rattle.model.specs.Owners.{indexPlaces};
 ghost use Rattle.model.specs.Answers.{roomRefusal, verdictOf, answered, assembly};
@@ -24,7 +25,7 @@ fn room_and_finite(
     lengths: [usize; 7],
     long: usize,
 ) -> Verdict
-    requires { ⌜ objectives ≤ 16 ⌝ }
+    requires { ⌜ objectives ≤ mostObjectives ⌝ }
     ensures { λ r. ⌜ r ≡ (roomRefusal counts lengths then refuse 28 0 (ltb long (indexPlaces objectives)) then refuse 20 0 (not finite)) ⌝ }
 {
     let index = checks::refuse_if(28, 0, long < 8 * (objectives + 2));

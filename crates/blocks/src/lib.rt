@@ -4,6 +4,7 @@ ghost use mathlib.Core.Path.{_≡_};
 ghost use Prim.Native.Nat.{ℕ, _^_, _<_, _≤_};
 ghost use lib.Ieee.{nan};
 ghost use lib.ListN.{length, getD, take};
+ghost use Rattle.model.specs.Refusals.{mostObjectives};
 ghost use Rattle.model.specs.declared.Objective.the-variants.{Time};
 ghost use Rattle.model.specs.Lent.{atEntry};
 ghost use Rattle.buffers.specs.Bounds.{standardBlockRoom, ownBlocksRoom};
@@ -51,7 +52,7 @@ pub fn standard_block(
     end_roots: &[f64],
     pool: &[f64],
 ) -> Tally
-    requires { ⌜ RoomAll t (standardBlockRoom (length (now grid))) × Sized (now grid) (job .ends) × (job .count ≤ 16) × ((i : ℕ) → i < job .count → Fits (now grid) (job .ends) (now «start_roots») (now «end_roots») (now pool) (getD objectives i (Time nan))) × (length (now amax) ≡ length (now grid)) × AccSized (now grid) (now «acc_rows») (now «acc_a») (now «acc_b») (now «acc_max») × Few (now «acc_rows») × JerkSized (now grid) (now «jerk_rows») (now «jerk_a») (now «jerk_b») (now «jerk_c») (now «jerk_max») × Few (now «jerk_rows») ⌝ }
+    requires { ⌜ RoomAll t (standardBlockRoom (length (now grid))) × Sized (now grid) (job .ends) × (job .count ≤ mostObjectives) × ((i : ℕ) → i < job .count → Fits (now grid) (job .ends) (now «start_roots») (now «end_roots») (now pool) (getD objectives i (Time nan))) × (length (now amax) ≡ length (now grid)) × AccSized (now grid) (now «acc_rows») (now «acc_a») (now «acc_b») (now «acc_max») × Few (now «acc_rows») × JerkSized (now grid) (now «jerk_rows») (now «jerk_a») (now «jerk_b») (now «jerk_c») (now «jerk_max») × Few (now «jerk_rows») ⌝ }
     ensures { λ t′. ⌜ built t rows columns values right kinds dimensions cost t′ (standardLent job objectives grid «acc_rows» «jerk_rows» amax «acc_a» «acc_b» «acc_max» «jerk_a» «jerk_b» «jerk_c» «jerk_max» «start_roots» «end_roots» pool) (standardBlockRoom (length (atEntry grid))) ⌝ }
 {
     let ends = job.ends;
@@ -115,7 +116,7 @@ pub fn objective_blocks(
     pool: &[f64],
     index: &mut [usize],
 ) -> Tally
-    requires { ⌜ RoomAll t ownBlocksRoom × (t .owner < 2 ^ 31) × Sized (now grid) (job .ends) × (job .count ≤ 16) × AllReady (lends (path (now grid) (job .ends)) (now thermal) (torqueOf (job .d) (now «torque_a») (now «torque_b») (now «torque_g»)) (now pool)) objectives (job .count) ⌝ }
+    requires { ⌜ RoomAll t ownBlocksRoom × (t .owner < 2 ^ 31) × Sized (now grid) (job .ends) × (job .count ≤ mostObjectives) × AllReady (lends (path (now grid) (job .ends)) (now thermal) (torqueOf (job .d) (now «torque_a») (now «torque_b») (now «torque_g»)) (now pool)) objectives (job .count) ⌝ }
     ensures { λ t′. ⌜ builtOwners t rows columns values right kinds dimensions cost index t′ (ownBlocks (lends (path (atEntry grid) (job .ends)) (atEntry thermal) (torqueOf (job .d) (atEntry «torque_a») (atEntry «torque_b») (atEntry «torque_g»)) (atEntry pool)) (t .columns .at) (take (job .count) objectives)) ownBlocksRoom ⌝ }
 {
     let ends = job.ends;

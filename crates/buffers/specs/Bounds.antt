@@ -1,19 +1,7 @@
 -- How far each writer may move the tally, of a grid with so many stations: by at most so many rows, cones and columns, and by five times as many entries.
 -- These bounds keep the tally within its bits (Room, RoomAll); what is written does not depend on them.
 use Prim.Native.Nat.{ℕ, _+_, _*_}
-
--- the most stations, joints, objectives, and rows of a station in a table that refusals 5, 8, 10 and 16 leave
-abbrev pub mostStations : ℕ
-mostStations = 4097
-
-abbrev pub mostJoints : ℕ
-mostJoints = 32
-
-abbrev pub mostObjectives : ℕ
-mostObjectives = 16
-
-abbrev pub mostRows : ℕ
-mostRows = 256
+use Rattle.model.specs.Refusals.{mostStations, mostJoints, mostObjectives, mostRows}
 
 -- the equalities: four rows at the boundary, one for each positive end, one for each moving interval
 abbrev pub equalitiesRoom : ℕ → ℕ

@@ -7,7 +7,7 @@ use lib.ListN.{length, getD}
 use lib.Ieee.{Float}
 use Rattle.model.specs.Problem.{some, isThermal, isTorque, isLinear}
 use Rattle.model.specs.Verdicts.{_then_, lowest, itself}
-use Rattle.model.specs.Refusals.{boundaryRefusal, gridRefusal, setupRefusal, table, tableIf}
+use Rattle.model.specs.Refusals.{boundaryRefusal, gridRefusal, setupRefusal, table, tableIf, mostRows}
 use Rattle.model.specs.declared.Verdict.{Verdict}
 use Rattle.model.specs.declared.Job.{Job}
 use Rattle.model.specs.declared.Objective.{Objective}
@@ -24,8 +24,8 @@ countsLengths stations acc jerk = table 0 acc stations then table 1 jerk station
 -- 16
 abbrev pub rowsRefusal : ℕ → List ℕ → List ℕ → Verdict
 rowsRefusal stations acc jerk =
-    lowest 16 itself (λ k. ltb 256 (getD acc k 0)) 0 stations
-    then lowest 16 itself (λ k. ltb 256 (getD jerk k 0)) 0 stations
+    lowest 16 itself (λ k. ltb mostRows (getD acc k 0)) 0 stations
+    then lowest 16 itself (λ k. ltb mostRows (getD jerk k 0)) 0 stations
 
 -- tables 3 to 5, then 6 to 9, given their lengths
 abbrev pub accLengths : ℕ → ℕ → ℕ → ℕ → Verdict

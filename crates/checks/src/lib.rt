@@ -10,7 +10,7 @@ ghost use Rattle.model.specs.Lists.{total, part};
 ghost use Rattle.model.specs.Problem.{some, weight, isThermal, isTorque, isLinear};
 ghost use Rattle.model.specs.Lent.{atEntry, lent};
 ghost use Rattle.model.specs.Verdicts.{_then_, refuse, lowest, itself};
-ghost use Rattle.model.specs.Refusals.{firstRefusal, signsRefusal, boundaryRefusal, gridRefusal, listRefusal, scalesRefusal, listsRefusal, objectivesRefusal, setupRefusal, table, tableIf, tablesRefusal, unusableEnd, crossed, boundsRefusal, refusal};
+ghost use Rattle.model.specs.Refusals.{firstRefusal, signsRefusal, boundaryRefusal, gridRefusal, listRefusal, scalesRefusal, listsRefusal, objectivesRefusal, setupRefusal, table, tableIf, tablesRefusal, unusableEnd, crossed, boundsRefusal, refusal, mostStations, mostJoints, mostObjectives, mostRows};
 ghost use Rattle.checks.specs.Groups.{jobRefusal, countsLengths, rowsRefusal, accLengths, jerkLengths, standardLengths, torqueLengths, rootLengths, objectiveLengths};
 use model::Boundary;
 use model::Bounds;
@@ -265,7 +265,7 @@ fn check_objectives(
     objectives: [Objective; 16],
     count: usize,
 ) -> Verdict
-    requires { ⌜ count ≤ 16 ⌝ }
+    requires { ⌜ count ≤ mostObjectives ⌝ }
     ensures { λ r. ⌜ r ≡ objectivesRefusal (atEntry pool) d stations 0 (take count objectives) ⌝ }
 {
     let mut i = 0;
@@ -313,7 +313,7 @@ struct Kinds {
 }
 
 fn kinds_of(objectives: [Objective; 16], count: usize) -> Kinds
-    requires { ⌜ count ≤ 16 ⌝ }
+    requires { ⌜ count ≤ mostObjectives ⌝ }
     ensures { λ r. ⌜ (r .thermal ≡ some isThermal (take count objectives)) × (r .torque ≡ some isTorque (take count objectives)) × (r .linear ≡ some isLinear (take count objectives)) ⌝ }
 {
     let mut thermal = false;
@@ -364,7 +364,7 @@ fn check_table_if(counts: bool, t: usize, have: usize, need: usize) -> Verdict
 // Refusal 16 within a table.
 fn check_rows(counts: &[u32], stations: usize) -> Verdict
     requires { ⌜ stations ≤ length (now counts) ⌝ }
-    ensures { λ r. ⌜ r ≡ lowest 16 itself (λ k. ltb 256 (getD (atEntry counts) k 0)) 0 stations ⌝ }
+    ensures { λ r. ⌜ r ≡ lowest 16 itself (λ k. ltb mostRows (getD (atEntry counts) k 0)) 0 stations ⌝ }
 {
     let mut k = 0;
     while k < stations {
@@ -402,7 +402,7 @@ fn check_all_rows(stations: usize, acc_rows: &[u32], jerk_rows: &[u32]) -> Verdi
 
 // The sum of a table of row counts: 4,097 numbers of 32 bits fit 64 bits.
 fn total_rows(counts: &[u32]) -> usize
-    requires { ⌜ length (now counts) ≤ 4097 ⌝ }
+    requires { ⌜ length (now counts) ≤ mostStations ⌝ }
     ensures { λ r. ⌜ r ≡ total (atEntry counts) ⌝ }
 {
     let mut sum: usize = 0;
@@ -449,7 +449,7 @@ fn check_standard_lengths(
     jerk_c: usize,
     jerk_max: usize,
 ) -> Verdict
-    requires { ⌜ (length (now «acc_rows») ≤ 4097) × (length (now «jerk_rows») ≤ 4097) ⌝ }
+    requires { ⌜ (length (now «acc_rows») ≤ mostStations) × (length (now «jerk_rows») ≤ mostStations) ⌝ }
     ensures { λ r. ⌜ r ≡ standardLengths stations (total (atEntry «acc_rows»)) (total (atEntry «jerk_rows»)) amax «acc_a» «acc_b» «acc_max» «jerk_a» «jerk_b» «jerk_c» «jerk_max» ⌝ }
 {
     let v = check_table(2, amax, stations);
@@ -505,7 +505,7 @@ fn check_objective_lengths(
     start_roots: usize,
     end_roots: usize,
 ) -> Verdict
-    requires { ⌜ (count ≤ 16) × (d ≤ 32) × (stations ≤ 4097) ⌝ }
+    requires { ⌜ (count ≤ mostObjectives) × (d ≤ mostJoints) × (stations ≤ mostStations) ⌝ }
     ensures { λ r. ⌜ r ≡ objectiveLengths (take count objectives) stations d (ends .n0) (ends .n1) thermal «torque_a» «torque_b» «torque_g» «start_roots» «end_roots» ⌝ }
 {
     let k = kinds_of(objectives, count);
@@ -544,7 +544,7 @@ fn check_tables(
     end_roots: &[f64],
     pool: &[f64],
 ) -> Verdict
-    requires { ⌜ (3 ≤ length (now grid)) × (length (now grid) ≤ 4097) × (job .d ≤ 32) × (job .count ≤ 16) ⌝ }
+    requires { ⌜ (3 ≤ length (now grid)) × (length (now grid) ≤ mostStations) × (job .d ≤ mostJoints) × (job .count ≤ mostObjectives) ⌝ }
     ensures { λ r. ⌜ r ≡ tablesRefusal (lent job objectives grid «acc_rows» «jerk_rows» amax «acc_a» «acc_b» «acc_max» «jerk_a» «jerk_b» «jerk_c» «jerk_max» thermal «torque_a» «torque_b» «torque_g» «start_roots» «end_roots» pool) ⌝ }
 {
     let ends = job.ends;
@@ -609,7 +609,7 @@ fn is_crossed(count: usize, bounds: Bounds) -> bool
 
 // Refusal 17 of the stations from `from` to below `to`.
 fn check_amax(amax: &[f64], from: usize, to: usize) -> Verdict
-    requires { ⌜ (to ≤ length (now amax)) × (length (now amax) ≤ 4097) ⌝ }
+    requires { ⌜ (to ≤ length (now amax)) × (length (now amax) ≤ mostStations) ⌝ }
     ensures { λ r. ⌜ r ≡ lowest 17 (λ k. 2 + k) (λ k. unusable (at (atEntry amax) k)) from (to - from) ⌝ }
 {
     let mut k = from;
@@ -627,7 +627,7 @@ fn check_amax(amax: &[f64], from: usize, to: usize) -> Verdict
 
 // Refusals 17 and 18.
 fn check_bounds(ends: Ends, start: Bounds, end: Bounds, grid: &[f64], amax: &[f64]) -> Verdict
-    requires { ⌜ (length (now amax) ≡ length (now grid)) × (length (now grid) ≤ 4097) × (ends .n0 + ends .n1 + 1 < length (now grid)) ⌝ }
+    requires { ⌜ (length (now amax) ≡ length (now grid)) × (length (now grid) ≤ mostStations) × (ends .n0 + ends .n1 + 1 < length (now grid)) ⌝ }
     ensures { λ r. ⌜ r ≡ boundsRefusal (record { grid = atEntry grid; N0 = ends .n0; N1 = ends .n1 }) (record { start = start; end = end; amax = atEntry amax }) ⌝ }
 {
     let v = refuse_if(17, 0, is_unusable_end(ends.n0, start));

@@ -4,13 +4,14 @@ ghost use mathlib.Core.Path.{_≡_};
 ghost use mathlib.Core.List.{[]};
 ghost use Prim.Native.Nat.{_<_, _≤_};
 ghost use lib.ListN.{length};
+ghost use Rattle.model.specs.Refusals.{mostStations};
 ghost use Rattle.model.specs.Lent.{atEntry};
 ghost use Rattle.model.specs.Problem.{onGrid, colA, colB, colXi, L};
 ghost use Rattle.buffers.specs.Inputs.{path, Sized};
 use model::Column;
 use model::Ends;
 
-// a of station k.
+// a of station k, which no grid moves.
 pub fn column_a(k: usize) -> Column
     ensures { λ r. ⌜ r .at ≡ colA (onGrid []) k ⌝ }
 {
@@ -19,7 +20,7 @@ pub fn column_a(k: usize) -> Column
 
 // b of station k.
 pub fn column_b(grid: &[f64], k: usize) -> Column
-    requires { ⌜ (0 < length (now grid)) × (length (now grid) ≤ 4097) × (k ≤ 4097) ⌝ }
+    requires { ⌜ (0 < length (now grid)) × (length (now grid) ≤ mostStations) × (k ≤ mostStations) ⌝ }
     ensures { λ r. ⌜ r .at ≡ colB (onGrid (atEntry grid)) k ⌝ }
 {
     Column { at: grid.len() + k }
@@ -27,7 +28,7 @@ pub fn column_b(grid: &[f64], k: usize) -> Column
 
 // xi number j.
 pub fn column_xi(grid: &[f64], j: usize) -> Column
-    requires { ⌜ (0 < length (now grid)) × (length (now grid) ≤ 4097) × (j ≤ 4097) ⌝ }
+    requires { ⌜ (0 < length (now grid)) × (length (now grid) ≤ mostStations) × (j ≤ mostStations) ⌝ }
     ensures { λ r. ⌜ r .at ≡ colXi (onGrid (atEntry grid)) j ⌝ }
 {
     Column {

@@ -34,45 +34,17 @@ fn clarabel_boundary_constraint_topp3(
 {
     let last = grid.len() - 1;
     let a = column_a(0);
-    let u = buffers::row1(
-        t,
-        rows,
-        columns,
-        values,
-        right,
-        boundary.a0,
-        Term { col: a, v: 1.0 },
-    );
+    let p = Term { col: a, v: 1.0 };
+    let u = buffers::row1(t, rows, columns, values, right, boundary.a0, p);
     let a = column_a(last);
-    let u = buffers::row1(
-        u,
-        rows,
-        columns,
-        values,
-        right,
-        boundary.a1,
-        Term { col: a, v: 1.0 },
-    );
+    let p = Term { col: a, v: 1.0 };
+    let u = buffers::row1(u, rows, columns, values, right, boundary.a1, p);
     let b = column_b(grid, 0);
-    let u = buffers::row1(
-        u,
-        rows,
-        columns,
-        values,
-        right,
-        boundary.b0,
-        Term { col: b, v: 1.0 },
-    );
+    let p = Term { col: b, v: 1.0 };
+    let u = buffers::row1(u, rows, columns, values, right, boundary.b0, p);
     let b = column_b(grid, last);
-    buffers::row1(
-        u,
-        rows,
-        columns,
-        values,
-        right,
-        boundary.b1,
-        Term { col: b, v: 1.0 },
-    )
+    let p = Term { col: b, v: 1.0 };
+    buffers::row1(u, rows, columns, values, right, boundary.b1, p)
 }
 
 // The row of an end: k is its moving station, z its resting one.

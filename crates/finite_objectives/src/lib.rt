@@ -6,6 +6,7 @@ ghost use Prim.Native.Nat.{ℕ, _+_, _-_, _*_, _<_, _≤_};
 ghost use lib.Dec.{ltb};
 ghost use lib.Ieee.{nan};
 ghost use lib.ListN.{length, getD, take};
+ghost use Rattle.model.specs.Refusals.{mostStations, mostObjectives};
 ghost use Rattle.model.specs.Lent.{atEntry};
 ghost use Rattle.model.specs.Numbers.{finite};
 ghost use Rattle.model.specs.Lists.{list};
@@ -213,7 +214,7 @@ fn step_joint(
     k: usize,
     i: usize,
 ) -> bool
-    requires { ⌜ JointsAt (now «torque_a») (now «torque_b») (now «torque_g») (now scales) d (k + 1) × (i < d) × (k ≤ 4097) ⌝ }
+    requires { ⌜ JointsAt (now «torque_a») (now «torque_b») (now «torque_g») (now scales) d (k + 1) × (i < d) × (k ≤ mostStations) ⌝ }
     ensures { λ r. ⌜ r ≡ stepTest (torqueOf d (atEntry «torque_a») (atEntry «torque_b») (atEntry «torque_g»)) (atEntry scales) k i ⌝ }
 {
     let a = torque::scaled(torque_a, scales, d, k, i);
@@ -234,7 +235,7 @@ fn step_joints(
     d: usize,
     k: usize,
 ) -> bool
-    requires { ⌜ JointsAt (now «torque_a») (now «torque_b») (now «torque_g») (now scales) d (k + 1) × (k ≤ 4097) ⌝ }
+    requires { ⌜ JointsAt (now «torque_a») (now «torque_b») (now «torque_g») (now scales) d (k + 1) × (k ≤ mostStations) ⌝ }
     ensures { λ r. ⌜ Each r (stepTest (torqueOf d (atEntry «torque_a») (atEntry «torque_b») (atEntry «torque_g»)) (atEntry scales) k) 0 d ⌝ }
 {
     let mut ok = true;
@@ -361,7 +362,7 @@ fn charged_costs(
     betas: &[usize; 16],
     count: usize,
 ) -> bool
-    requires { ⌜ Sized (now grid) ends × (count ≤ 16) × ((i : ℕ) → i < count → Fits (now grid) ends (now «start_roots») (now «end_roots») (now pool) (gathered (length (now grid)) (now weights) (now alphas) (now betas) i)) ⌝ }
+    requires { ⌜ Sized (now grid) ends × (count ≤ mostObjectives) × ((i : ℕ) → i < count → Fits (now grid) ends (now «start_roots») (now «end_roots») (now pool) (gathered (length (now grid)) (now weights) (now alphas) (now betas) i)) ⌝ }
     ensures { λ r. ⌜ Each r (λ c. finite (abCost (atEntry grid) ends (atEntry «start_roots») (atEntry «end_roots») (atEntry pool) (list (gathered (length (atEntry grid)) (atEntry weights) (atEntry alphas) (atEntry betas)) 0 count) c)) 0 (2 * length (atEntry grid)) ⌝ }
 {
     let columns = 2 * grid.len();
@@ -395,7 +396,7 @@ pub fn ab_costs(
     objectives: [Objective; 16],
     count: usize,
 ) -> bool
-    requires { ⌜ Sized (now grid) ends × (count ≤ 16) × ((i : ℕ) → i < count → Fits (now grid) ends (now «start_roots») (now «end_roots») (now pool) (getD objectives i (Time nan))) ⌝ }
+    requires { ⌜ Sized (now grid) ends × (count ≤ mostObjectives) × ((i : ℕ) → i < count → Fits (now grid) ends (now «start_roots») (now «end_roots») (now pool) (getD objectives i (Time nan))) ⌝ }
     ensures { λ r. ⌜ r ≡ allFinite (list (abCost (atEntry grid) ends (atEntry «start_roots») (atEntry «end_roots») (atEntry pool) (take count objectives)) 0 (2 * (n (path (atEntry grid) ends) + 1))) ⌝ }
 {
     let g = linear::gather_all(objectives, count);
@@ -477,7 +478,7 @@ pub fn objectives(
     objectives: [Objective; 16],
     count: usize,
 ) -> bool
-    requires { ⌜ Sized (now grid) ends × (count ≤ 16) × AllReady (lends (path (now grid) ends) (now thermal) (torqueOf d (now «torque_a») (now «torque_b») (now «torque_g»)) (now pool)) objectives count ⌝ }
+    requires { ⌜ Sized (now grid) ends × (count ≤ mostObjectives) × AllReady (lends (path (now grid) ends) (now thermal) (torqueOf d (now «torque_a») (now «torque_b») (now «torque_g»)) (now pool)) objectives count ⌝ }
     ensures { λ r. ⌜ ((c : ℕ) → r ≡ finiteBlocks (objectiveBlocks (lends (path (atEntry grid) ends) (atEntry thermal) (torqueOf d (atEntry «torque_a») (atEntry «torque_b») (atEntry «torque_g»)) (atEntry pool)) c (take count objectives))) ⌝ }
 {
     let mut ok = true;

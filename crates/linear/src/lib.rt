@@ -5,6 +5,7 @@ ghost use mathlib.Core.Bool.{false, cond};
 ghost use Prim.Native.Nat.{ℕ, _+_, _-_, _*_, _^_, _<_, _≤_, max};
 ghost use lib.ListN.{length, getD, take};
 ghost use lib.Ieee.{nan};
+ghost use Rattle.model.specs.Refusals.{mostObjectives};
 ghost use Rattle.model.specs.Lent.{atEntry};
 ghost use Rattle.model.specs.declared.Objective.the-variants.{Time, Linear};
 ghost use Rattle.model.specs.Numbers.{at, _⊗_, +0};
@@ -207,7 +208,7 @@ pub fn column_cost(
     count: usize,
     c: Column,
 ) -> f64
-    requires { ⌜ Sized (now grid) ends × (count ≤ 16) × ((i : ℕ) → i < count → Fits (now grid) ends (now «start_roots») (now «end_roots») (now pool) (gathered (length (now grid)) (now weights) (now alphas) (now betas) i)) ⌝ }
+    requires { ⌜ Sized (now grid) ends × (count ≤ mostObjectives) × ((i : ℕ) → i < count → Fits (now grid) ends (now «start_roots») (now «end_roots») (now pool) (gathered (length (now grid)) (now weights) (now alphas) (now betas) i)) ⌝ }
     ensures { λ r. ⌜ Charged r +0 (c .at) (joined (chargesOf (atEntry grid) ends (atEntry «start_roots») (atEntry «end_roots») (atEntry pool)) (list (gathered (length (atEntry grid)) (atEntry weights) (atEntry alphas) (atEntry betas)) 0 count)) ⌝ }
 {
     let mut x = 0.0;
@@ -242,7 +243,7 @@ fn charged_costs(
     betas: &[usize; 16],
     count: usize,
 ) -> Tally
-    requires { ⌜ (t .columns .at + 2 * length (now grid) ≤ 2 ^ 32) × Sized (now grid) ends × (count ≤ 16) × ((i : ℕ) → i < count → Fits (now grid) ends (now «start_roots») (now «end_roots») (now pool) (gathered (length (now grid)) (now weights) (now alphas) (now betas) i)) ⌝ }
+    requires { ⌜ (t .columns .at + 2 * length (now grid) ≤ 2 ^ 32) × Sized (now grid) ends × (count ≤ mostObjectives) × ((i : ℕ) → i < count → Fits (now grid) ends (now «start_roots») (now «end_roots») (now pool) (gathered (length (now grid)) (now weights) (now alphas) (now betas) i)) ⌝ }
     ensures { λ r. ⌜ fillsCost t cost r (abCost (atEntry grid) ends (atEntry «start_roots») (atEntry «end_roots») (atEntry pool) (list (gathered (length (atEntry grid)) (atEntry weights) (atEntry alphas) (atEntry betas)) 0 count)) 0 (2 * length (atEntry grid)) ⌝ }
 {
     let columns = 2 * grid.len();
@@ -332,7 +333,7 @@ pub struct LinearParts {
 }
 
 pub fn gather_all(objectives: [Objective; 16], count: usize) -> LinearParts
-    requires { ⌜ count ≤ 16 ⌝ }
+    requires { ⌜ count ≤ mostObjectives ⌝ }
     ensures { λ r. ⌜ (r .count ≤ count) × ((l : ℕ) → AllLong l objectives count → Gathers l (take count objectives) (r .weights) (r .alphas) (r .betas) (r .count)) ⌝ }
 {
     let mut weights = [0.0; 16];
@@ -366,7 +367,7 @@ pub fn ab_costs(
     objectives: [Objective; 16],
     count: usize,
 ) -> Tally
-    requires { ⌜ (t .columns .at + 2 * length (now grid) ≤ 2 ^ 32) × Sized (now grid) ends × (count ≤ 16) × ((i : ℕ) → i < count → Fits (now grid) ends (now «start_roots») (now «end_roots») (now pool) (getD objectives i (Time nan))) ⌝ }
+    requires { ⌜ (t .columns .at + 2 * length (now grid) ≤ 2 ^ 32) × Sized (now grid) ends × (count ≤ mostObjectives) × ((i : ℕ) → i < count → Fits (now grid) ends (now «start_roots») (now «end_roots») (now pool) (getD objectives i (Time nan))) ⌝ }
     ensures { λ r. ⌜ fillsCost t cost r (abCost (atEntry grid) ends (atEntry «start_roots») (atEntry «end_roots») (atEntry pool) (take count objectives)) 0 (2 * (n (path (atEntry grid) ends) + 1)) ⌝ }
 {
     let g = gather_all(objectives, count);

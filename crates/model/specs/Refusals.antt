@@ -5,6 +5,19 @@ use Rattle.model.specs.Lists.{total, part}
 use Rattle.model.specs.Problem.{Problem, Path, Limits, objectives, n, m, weight, some, isThermal, isTorque, isLinear}
 use Rattle.model.specs.Verdicts.{_then_, refuse, lowest, itself}
 
+-- the most stations, joints, objectives, and rows of a station in a table: "5 more than 4,097", "8 d is outside 1 to 32", "10 more than 16", "16 a row count is above 256"
+abbrev pub mostStations : ℕ
+mostStations = 4097
+
+abbrev pub mostJoints : ℕ
+mostJoints = 32
+
+abbrev pub mostObjectives : ℕ
+mostObjectives = 16
+
+abbrev pub mostRows : ℕ
+mostRows = 256
+
 -- "1 a boundary number is not finite; place 0 to 3 for initial a, terminal a, initial b, terminal b."
 abbrev pub firstRefusal : Boundary → Verdict
 firstRefusal b =
@@ -24,7 +37,7 @@ boundaryRefusal b = firstRefusal b then signsRefusal b
 unfoldable pub gridRefusal : List Float → Verdict
 gridRefusal g =
     refuse 4 0 (ltb (length g) 3)
-    then refuse 5 0 (ltb 4097 (length g))
+    then refuse 5 0 (ltb mostStations (length g))
     then lowest 6 itself (λ k. not (finite (at g k))) 0 (length g)
     then lowest 7 itself (λ k. not (lt (at g (k - 1)) (at g k))) 1 (length g - 1)
 
@@ -53,9 +66,9 @@ objectivesRefusal pool d stations i (o ∷ os) =
 -- "8 d is outside 1 to 32. 9 no objective. 10 more than 16."
 unfoldable pub setupRefusal : ℕ → ℕ → List Objective → ℕ → List Float → Verdict
 setupRefusal d count slots stations pool =
-    refuse 8 0 (eqb d 0 || ltb 32 d)
+    refuse 8 0 (eqb d 0 || ltb mostJoints d)
     then refuse 9 0 (eqb count 0)
-    then refuse 10 0 (ltb 16 count)
+    then refuse 10 0 (ltb mostObjectives count)
     then objectivesRefusal pool d stations 0 (take count slots)
 
 -- "15 a table that counts has a wrong length; place is its number": table t is of length `have` and has to be of length `need`
@@ -78,8 +91,8 @@ tablesRefusal p =
     refuse 14 0 (leb (n (p .path)) (p .path .N0 + p .path .N1))
     then table 0 (length (p .acc .counts)) (n (p .path) + 1)
     then table 1 (length (p .jerk .counts)) (n (p .path) + 1)
-    then lowest 16 itself (λ k. ltb 256 (getD (p .acc .counts) k 0)) 0 (n (p .path) + 1)
-    then lowest 16 itself (λ k. ltb 256 (getD (p .jerk .counts) k 0)) 0 (n (p .path) + 1)
+    then lowest 16 itself (λ k. ltb mostRows (getD (p .acc .counts) k 0)) 0 (n (p .path) + 1)
+    then lowest 16 itself (λ k. ltb mostRows (getD (p .jerk .counts) k 0)) 0 (n (p .path) + 1)
     then table 2 (length (p .limits .amax)) (n (p .path) + 1)
     then table 3 (length (p .acc .a)) acc
     then table 4 (length (p .acc .b)) acc

@@ -3,6 +3,7 @@
 ghost use mathlib.Core.Path.{_≡_};
 ghost use Prim.Native.Nat.{_≤_};
 ghost use lib.ListN.{take};
+ghost use Rattle.model.specs.Refusals.{mostObjectives};
 ghost use Rattle.model.specs.Problem.{some, usesRoot, isThermal, isTorque, isLinear};
 use model::Objective;
 
@@ -110,7 +111,7 @@ pub fn uses_root(o: Objective) -> bool
 
 // Whether any of the first count objectives uses it: then there is a root stage.
 pub fn has_root(objectives: [Objective; 16], count: usize) -> bool
-    requires { ⌜ count ≤ 16 ⌝ }
+    requires { ⌜ count ≤ mostObjectives ⌝ }
     ensures { λ r. ⌜ r ≡ some usesRoot (take count objectives) ⌝ }
 {
     let mut found = false;

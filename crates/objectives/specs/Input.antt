@@ -4,6 +4,7 @@ use mathlib.Core.List.{List, []}
 use Prim.Native.Nat.{ℕ, _+_, _*_, _≤_, _<_}
 use lib.Ieee.{Float, nan}
 use lib.ListN.{length, getD}
+use Rattle.model.specs.Refusals.{mostJoints}
 use Rattle.model.specs.Numbers.{+0}
 use Rattle.model.specs.Problem.{Problem, Path, Torque}
 use Rattle.model.specs.declared.Objective.{Objective}
@@ -30,7 +31,7 @@ lends q thermal x pool =
 abbrev pub Joints : Problem → ℕ → ℕ → Type 0
 Joints p start len =
     (0 < p .torque .d)
-    × (p .torque .d ≤ 32)
+    × (p .torque .d ≤ mostJoints)
     × (length (p .torque .a) ≡ length (p .path .grid) * p .torque .d)
     × (length (p .torque .b) ≡ length (p .path .grid) * p .torque .d)
     × (length (p .torque .g) ≡ length (p .path .grid) * p .torque .d)

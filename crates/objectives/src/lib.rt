@@ -3,6 +3,7 @@
 ghost use Prim.Native.Nat.{_+_, _^_, _<_, _≤_};
 ghost use lib.Ieee.{nan};
 ghost use lib.ListN.{getD, take};
+ghost use Rattle.model.specs.Refusals.{mostObjectives};
 ghost use Rattle.model.specs.Lent.{atEntry};
 ghost use Rattle.model.specs.Objectives.{objectiveBlock};
 ghost use Rattle.model.specs.declared.Objective.the-variants.{Time};
@@ -178,7 +179,7 @@ pub fn clarabel_objective_copp3(
     count: usize,
     index: &mut [usize],
 ) -> Tally
-    requires { ⌜ RoomAll t objectivesRoom × (t .owner < 2 ^ 32) × Sized (now grid) ends × (count ≤ 16) × AllReady (lends (path (now grid) ends) (now thermal) (torqueOf d (now «torque_a») (now «torque_b») (now «torque_g»)) (now pool)) objectives count ⌝ }
+    requires { ⌜ RoomAll t objectivesRoom × (t .owner < 2 ^ 32) × Sized (now grid) ends × (count ≤ mostObjectives) × AllReady (lends (path (now grid) ends) (now thermal) (torqueOf d (now «torque_a») (now «torque_b») (now «torque_g»)) (now pool)) objectives count ⌝ }
     ensures { λ r. ⌜ builtOwners t rows columns values right kinds dimensions cost index r (objectiveBlocks (lends (path (atEntry grid) ends) (atEntry thermal) (torqueOf d (atEntry «torque_a») (atEntry «torque_b») (atEntry «torque_g»)) (atEntry pool)) (t .columns .at) (take count objectives)) objectivesRoom ⌝ }
 {
     let mut u = t;

@@ -10,6 +10,7 @@ ghost use Rattle.passes.specs.Program.{startAt, complete};
 use blocks::objective_blocks;
 use blocks::standard_block;
 use buffers::put_owner;
+use finite_objectives::ab_costs;
 use finite_standard::standard_rows;
 use model::Column;
 use model::Job;
@@ -50,15 +51,7 @@ pub fn every_number(
     let end = job.end;
     let d = job.d;
     let count = job.count;
-    let one = finite_objectives::ab_costs(
-        grid,
-        ends,
-        start_roots,
-        end_roots,
-        pool,
-        objectives,
-        count,
-    );
+    let one = ab_costs(grid, ends, start_roots, end_roots, pool, objectives, count);
     let two = standard_rows(
         grid,
         ends,

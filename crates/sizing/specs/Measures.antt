@@ -1,6 +1,7 @@
 -- The numbers of which document 01's counts are made, and bounds that keep their sums within 64 bits.
 use Prim.Native.Nat.{ℕ, _+_, _*_, _^_, _≤_}
 use mathlib.Core.List.{List}
+use Rattle.model.specs.Refusals.{mostStations, mostJoints, mostObjectives}
 use Rattle.model.specs.Problem.{Problem, Path, Limits, n, m, ends, L}
 use Rattle.model.specs.Counts.{uppers, accInside, jerkInside}
 use Rattle.model.specs.declared.FourCounts.{FourCounts}
@@ -15,7 +16,7 @@ measuresOf p = measures (p .path) (p .torque .d) (p .limits) (p .acc .counts) (p
 
 -- the acceleration rows of 4,097 stations, whose counts are of 32 bits
 abbrev pub accMost : ℕ
-accMost = 4097 * 2 ^ 32
+accMost = mostStations * 2 ^ 32
 
 -- the jerk rows of the moving intervals: each station between the ends counts twice, and the two at the ends once
 abbrev pub jerkMost : ℕ
@@ -32,12 +33,12 @@ abbrev pub objectiveMost : ℕ
 objectiveMost = 2000000
 
 abbrev pub objectivesMost : ℕ
-objectivesMost = 16 * objectiveMost
+objectivesMost = mostObjectives * objectiveMost
 
 -- what 4,097 stations, 32 joints and counts of 32 bits leave
 abbrev pub Bounded : Measures → Type 0
 Bounded s =
-    (s .d ≤ 32)
+    (s .d ≤ mostJoints)
     × (s .n ≤ 4096)
     × (s .m ≤ 4096)
     × (s .ends ≤ 2)

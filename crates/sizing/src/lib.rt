@@ -4,6 +4,7 @@ ghost use mathlib.Core.List.{List};
 ghost use Prim.Native.Nat.{_+_, _-_, _*_, _≤_, _<_};
 ghost use lib.Dec.{ltb};
 ghost use lib.ListN.{length, take, getD};
+ghost use Rattle.model.specs.Refusals.{mostStations, mostJoints, mostObjectives};
 ghost use Rattle.model.specs.Numbers.{at};
 ghost use Rattle.model.specs.Lists.{sumOver};
 ghost use Rattle.model.specs.Problem.{Problem, problem, flag, hasRoot};
@@ -66,8 +67,8 @@ fn end_upper(count: usize, bounds: Bounds) -> usize
 
 // The stations from `from` to below `to`, in one pass.
 fn sums_inside(amax: &[f64], acc_rows: &[u32], jerk_rows: &[u32], from: usize, to: usize) -> Inside
-    requires { ⌜ (from ≤ to) × (to ≤ length (now amax)) × (to ≤ length (now «acc_rows»)) × (to ≤ length (now «jerk_rows»)) × (to ≤ 4097) ⌝ }
-    ensures { λ r. ⌜ (r .uppers ≡ sumOver (λ k. upper (at (atEntry amax) k)) from (to - from)) × (r .acc ≡ sumOver (λ k. getD (atEntry «acc_rows») k 0) from (to - from)) × (r .jerk ≡ sumOver (λ k. getD (atEntry «jerk_rows») k 0) from (to - from)) × (r .uppers ≤ 4097) × (r .acc ≤ accMost) × (r .jerk ≤ accMost) ⌝ }
+    requires { ⌜ (from ≤ to) × (to ≤ length (now amax)) × (to ≤ length (now «acc_rows»)) × (to ≤ length (now «jerk_rows»)) × (to ≤ mostStations) ⌝ }
+    ensures { λ r. ⌜ (r .uppers ≡ sumOver (λ k. upper (at (atEntry amax) k)) from (to - from)) × (r .acc ≡ sumOver (λ k. getD (atEntry «acc_rows») k 0) from (to - from)) × (r .jerk ≡ sumOver (λ k. getD (atEntry «jerk_rows») k 0) from (to - from)) × (r .uppers ≤ mostStations) × (r .acc ≤ accMost) × (r .jerk ≤ accMost) ⌝ }
 {
     let mut uppers: usize = 0;
     let mut acc: usize = 0;
@@ -102,7 +103,7 @@ fn measure(
     acc_rows: &[u32],
     jerk_rows: &[u32],
 ) -> Measures
-    requires { ⌜ (3 ≤ length (now grid)) × (length (now grid) ≤ 4097) × (ends .n0 + ends .n1 + 1 < length (now grid)) × (d ≤ 32) × (length (now amax) ≡ length (now grid)) × (length (now «acc_rows») ≡ length (now grid)) × (length (now «jerk_rows») ≡ length (now grid)) ⌝ }
+    requires { ⌜ (3 ≤ length (now grid)) × (length (now grid) ≤ mostStations) × (ends .n0 + ends .n1 + 1 < length (now grid)) × (d ≤ mostJoints) × (length (now amax) ≡ length (now grid)) × (length (now «acc_rows») ≡ length (now grid)) × (length (now «jerk_rows») ≡ length (now grid)) ⌝ }
     ensures { λ r. ⌜ (r ≡ measures (record { grid = atEntry grid; N0 = ends .n0; N1 = ends .n1 }) d (record { start = start; end = end; amax = atEntry amax }) (atEntry «acc_rows») (atEntry «jerk_rows»)) × Bounded r ⌝ }
 {
     let n0 = ends.n0;
@@ -242,7 +243,7 @@ fn sum(a: FourCounts, b: FourCounts) -> FourCounts
 
 // What the first count objectives add.
 fn objectives_counts(s: Measures, objectives: [Objective; 16], count: usize) -> FourCounts
-    requires { ⌜ (count ≤ 16) × Bounded s ⌝ }
+    requires { ⌜ (count ≤ mostObjectives) × Bounded s ⌝ }
     ensures { λ r. ⌜ ((p : Problem) → s ≡ measuresOf p → r ≡ objectivesCounts p (take count objectives)) × Few objectivesMost r ⌝ }
 {
     let mut t = FourCounts {
@@ -263,7 +264,7 @@ fn objectives_counts(s: Measures, objectives: [Objective; 16], count: usize) -> 
 
 // The four counts, from the numbers that they are made of.
 fn counted(s: Measures, objectives: [Objective; 16], count: usize) -> FourCounts
-    requires { ⌜ (count ≤ 16) × Bounded s ⌝ }
+    requires { ⌜ (count ≤ mostObjectives) × Bounded s ⌝ }
     ensures { λ r. ⌜ ((p : Problem) → s ≡ measuresOf p → take count objectives ≡ take (p .count) (p .slots) → r ≡ counts p) ⌝ }
 {
     let standard = standard_counts(s);

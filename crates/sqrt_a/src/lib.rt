@@ -4,6 +4,7 @@ ghost use mathlib.Core.Bool.{cond};
 ghost use mathlib.Core.List.{[], _∷_};
 ghost use Prim.Native.Nat.{_+_, _*_, _<_, _≤_, max};
 ghost use lib.ListN.{length, take};
+ghost use Rattle.model.specs.Refusals.{mostObjectives};
 ghost use Rattle.model.specs.Lent.{atEntry};
 ghost use Rattle.model.specs.Lists.{list};
 ghost use Rattle.model.specs.Problem.{L, some, usesRoot};
@@ -155,7 +156,7 @@ pub fn clarabel_sqrt_a_copp3(
     objectives: [Objective; 16],
     count: usize,
 ) -> Tally
-    requires { ⌜ RoomAll t (rootRoom (length (now grid))) × Sized (now grid) ends × (count ≤ 16) ⌝ }
+    requires { ⌜ RoomAll t (rootRoom (length (now grid))) × Sized (now grid) ends × (count ≤ mostObjectives) ⌝ }
     ensures { λ r. ⌜ built t rows columns values right kinds dimensions cost r (cond (some usesRoot (take count objectives)) (rootStage (path (atEntry grid) ends)) nothing) (rootRoom (length (atEntry grid))) ⌝ }
 {
     if has_root(objectives, count) {

@@ -1,6 +1,7 @@
 // Each stage is lent the running tally and moves it forward. The work is done by the by-value function of the same name; a caller with the tally by value uses the second form.
 
 ghost use Prim.Native.Nat.{_*_, _+_, _<_, _^_, _≤_, ℕ};
+ghost use Rattle.model.specs.Refusals.{mostObjectives};
 ghost use Rattle.acc_jerk.specs.Tables.{AccSized, Few, JerkSized, accOf, jerkOf};
 ghost use Rattle.buffers.specs.Bounds.{standardRoom, rootRoom, timeRoom, thermalRoom, torqueRoom};
 ghost use Rattle.buffers.specs.Inputs.{Sized, path, torqueOf};
@@ -145,7 +146,7 @@ pub fn root_stage(
     objectives: [model::Objective; 16],
     count: usize,
 )
-    requires { ⌜ RoomAll (now t) (rootRoom (length (now grid))) × Sized (now grid) ends × (count ≤ 16) ⌝ }
+    requires { ⌜ RoomAll (now t) (rootRoom (length (now grid))) × Sized (now grid) ends × (count ≤ mostObjectives) ⌝ }
     ensures { λ _. ⌜ built (atEntry t) rows columns values right kinds dimensions cost (atExit t) (cond (some usesRoot (take count objectives)) (rootStage (path (atEntry grid) ends)) nothing) (rootRoom (length (atEntry grid))) ⌝ }
 {
     *t = sqrt_a::clarabel_sqrt_a_copp3(
@@ -179,7 +180,7 @@ pub fn root_stage_by_value(
     objectives: [model::Objective; 16],
     count: usize,
 ) -> model::Tally
-    requires { ⌜ RoomAll t (rootRoom (length (now grid))) × Sized (now grid) ends × (count ≤ 16) ⌝ }
+    requires { ⌜ RoomAll t (rootRoom (length (now grid))) × Sized (now grid) ends × (count ≤ mostObjectives) ⌝ }
     ensures { λ r. ⌜ built t rows columns values right kinds dimensions cost r (cond (some usesRoot (take count objectives)) (rootStage (path (atEntry grid) ends)) nothing) (rootRoom (length (atEntry grid))) ⌝ }
 {
     let mut u = t;
@@ -212,7 +213,7 @@ pub fn linear(
     objectives: [model::Objective; 16],
     count: usize,
 )
-    requires { ⌜ ((now t) .columns .at + 2 * length (now grid) ≤ 2 ^ 32) × Sized (now grid) ends × (count ≤ 16) × ((i : ℕ) → i < count → Fits (now grid) ends (now «start_roots») (now «end_roots») (now pool) (getD objectives i (Time nan))) ⌝ }
+    requires { ⌜ ((now t) .columns .at + 2 * length (now grid) ≤ 2 ^ 32) × Sized (now grid) ends × (count ≤ mostObjectives) × ((i : ℕ) → i < count → Fits (now grid) ends (now «start_roots») (now «end_roots») (now pool) (getD objectives i (Time nan))) ⌝ }
     ensures { λ _. ⌜ fillsCost (atEntry t) cost (atExit t) (abCost (atEntry grid) ends (atEntry «start_roots») (atEntry «end_roots») (atEntry pool) (take count objectives)) 0 (2 * (n (path (atEntry grid) ends) + 1)) ⌝ }
 {
     *t = linear::ab_costs(
@@ -240,7 +241,7 @@ pub fn linear_by_value(
     objectives: [model::Objective; 16],
     count: usize,
 ) -> model::Tally
-    requires { ⌜ (t .columns .at + 2 * length (now grid) ≤ 2 ^ 32) × Sized (now grid) ends × (count ≤ 16) × ((i : ℕ) → i < count → Fits (now grid) ends (now «start_roots») (now «end_roots») (now pool) (getD objectives i (Time nan))) ⌝ }
+    requires { ⌜ (t .columns .at + 2 * length (now grid) ≤ 2 ^ 32) × Sized (now grid) ends × (count ≤ mostObjectives) × ((i : ℕ) → i < count → Fits (now grid) ends (now «start_roots») (now «end_roots») (now pool) (getD objectives i (Time nan))) ⌝ }
     ensures { λ r. ⌜ fillsCost t cost r (abCost (atEntry grid) ends (atEntry «start_roots») (atEntry «end_roots») (atEntry pool) (take count objectives)) 0 (2 * (n (path (atEntry grid) ends) + 1)) ⌝ }
 {
     let mut u = t;

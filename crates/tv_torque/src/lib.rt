@@ -3,12 +3,13 @@
 ghost use Prim.Native.Nat.{_+_, _-_, _*_, _^_, _<_, _≤_};
 ghost use lib.Dec.{ltb};
 ghost use lib.ListN.{length};
+ghost use Rattle.model.specs.Refusals.{mostStations, mostJoints};
 ghost use Rattle.model.specs.Lent.{atEntry};
 ghost use Rattle.model.specs.Lists.{over, given};
 ghost use Rattle.model.specs.Problem;
 ghost use Rattle.model.specs.Problem.{n, m, stop, flag};
 ghost use Rattle.model.specs.Objectives.{torqueBlock};
-ghost use Rattle.buffers.specs.Bounds.{mostStations, mostJoints, torqueStepRoom, torqueRoom};
+ghost use Rattle.buffers.specs.Bounds.{torqueStepRoom, torqueRoom};
 ghost use Rattle.buffers.specs.Lent.{Room, RoomAll, wrote, built};
 ghost use Rattle.buffers.specs.Inputs.{path, torqueOf};
 ghost use Rattle.torque.specs.Given.{Given};
