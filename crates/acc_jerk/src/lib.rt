@@ -204,17 +204,9 @@ fn group(
     let row = t.rows;
     let f = w.f;
     let g = w.g;
-    let u = buffers::column_table(
-        t,
-        rows,
-        columns,
-        values,
-        row,
-        w.first,
-        jerk_a,
-        p.from,
-        p.count,
-    );
+    let from = p.from;
+    let count = p.count;
+    let u = buffers::column_table(t, rows, columns, values, row, w.first, jerk_a, from, count);
     let u = column_jerk(
         u,
         rows,
@@ -241,7 +233,7 @@ fn group(
         p,
         r,
     );
-    buffers::right_table(u, right, jerk_max, p.from, p.count)
+    buffers::right_table(u, right, jerk_max, from, count)
 }
 
 // The backward group of station k, unless it is the first.
