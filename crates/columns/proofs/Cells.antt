@@ -1,35 +1,21 @@
--- What is written at a column that a function told, as what is written at the column itself.
+-- What is written at columns that functions told, as what is written at the columns themselves.
 use mathlib.Core.Path.{_≡_, ap}
 use mathlib.Core.List.{List, [], _∷_}
 use Prim.Native.Nat.{ℕ, _+_}
 use lib.Ieee.{Float}
-use Rattle.model.specs.Program.{cell, band, row}
+use Rattle.model.specs.Program.{Cell, cell, band}
 use Rattle.model.specs.declared.Tally.{Tally}
 use Rattle.buffers.specs.Buffers.{Fills, Wrote}
 use Rattle.buffers.proofs.Laws.{fills-as, wrote-as}
 
-module _ {t : Tally} {R C : List ℕ} {W H : List Float} {t′ : Tally} {R′ C′ : List ℕ} {W′ H′ : List Float} {m : ℕ} where
-  pub row1-at : {x : Float} {a a′ : ℕ} {v : Float} → Wrote t R C W H t′ R′ C′ W′ H′ (row x (cell a v ∷ []) ∷ []) m → a ≡ a′ → Wrote t R C W H t′ R′ C′ W′ H′ (row x (cell a′ v ∷ []) ∷ []) m
-  row1-at {x} {v} p e = wrote-as p (λ i. row x (cell (e i) v ∷ []) ∷ [])
+-- the first column of a band or a row, then the others
+pub at-column : {a b : ℕ} {v : ℕ → Float} {fs gs : List (ℕ → Cell)} → a ≡ b → fs ≡ gs → _≡_ {A = List (ℕ → Cell)} ((λ i. cell a (v i)) ∷ fs) ((λ i. cell b (v i)) ∷ gs)
+at-column {v} e f = λ j. (λ i. cell (e j) (v i)) ∷ f j
 
-  pub row2-at : {x : Float} {a a′ b b′ : ℕ} {v w : Float} → Wrote t R C W H t′ R′ C′ W′ H′ (row x (cell a v ∷ cell b w ∷ []) ∷ []) m → a ≡ a′ → b ≡ b′
-      → Wrote t R C W H t′ R′ C′ W′ H′ (row x (cell a′ v ∷ cell b′ w ∷ []) ∷ []) m
-  row2-at {x} {v} {w} p e f = wrote-as p (λ i. row x (cell (e i) v ∷ cell (f i) w ∷ []) ∷ [])
-
-  pub row3-at : {x : Float} {a a′ b b′ c c′ : ℕ} {v w y : Float} → Wrote t R C W H t′ R′ C′ W′ H′ (row x (cell a v ∷ cell b w ∷ cell c y ∷ []) ∷ []) m → a ≡ a′ → b ≡ b′ → c ≡ c′
-      → Wrote t R C W H t′ R′ C′ W′ H′ (row x (cell a′ v ∷ cell b′ w ∷ cell c′ y ∷ []) ∷ []) m
-  row3-at {x} {v} {w} {y} p e f g = wrote-as p (λ i. row x (cell (e i) v ∷ cell (f i) w ∷ cell (g i) y ∷ []) ∷ [])
-
-  pub row5-at : {x : Float} {a a′ b b′ c c′ d d′ o : ℕ} {v w y z u : Float}
-      → Wrote t R C W H t′ R′ C′ W′ H′ (row x (cell a v ∷ cell b w ∷ cell c y ∷ cell d z ∷ cell o u ∷ []) ∷ []) m → a ≡ a′ → b ≡ b′ → c ≡ c′ → d ≡ d′
-      → Wrote t R C W H t′ R′ C′ W′ H′ (row x (cell a′ v ∷ cell b′ w ∷ cell c′ y ∷ cell d′ z ∷ cell o u ∷ []) ∷ []) m
-  row5-at {x} {o} {v} {w} {y} {z} {u} p e f g h = wrote-as p (λ i. row x (cell (e i) v ∷ cell (f i) w ∷ cell (g i) y ∷ cell (h i) z ∷ cell o u ∷ []) ∷ [])
-
-  -- a band of three columns
-  pub band3-at : {k : ℕ} {h v w y : ℕ → Float} {a a′ b b′ c c′ : ℕ}
-      → Wrote t R C W H t′ R′ C′ W′ H′ (band k h ((λ i. cell a (v i)) ∷ (λ i. cell b (w i)) ∷ (λ i. cell c (y i)) ∷ []) ∷ []) m → a ≡ a′ → b ≡ b′ → c ≡ c′
-      → Wrote t R C W H t′ R′ C′ W′ H′ (band k h ((λ i. cell a′ (v i)) ∷ (λ i. cell b′ (w i)) ∷ (λ i. cell c′ (y i)) ∷ []) ∷ []) m
-  band3-at {k} {h} {v} {w} {y} p e f g = wrote-as p (λ j. band k h ((λ i. cell (e j) (v i)) ∷ (λ i. cell (f j) (w i)) ∷ (λ i. cell (g j) (y i)) ∷ []) ∷ [])
+-- a band, or a row, of any number of columns
+pub band-at : {t : Tally} {R C : List ℕ} {W H : List Float} {t′ : Tally} {R′ C′ : List ℕ} {W′ H′ : List Float} {m k : ℕ} {h : ℕ → Float} {fs gs : List (ℕ → Cell)}
+    → Wrote t R C W H t′ R′ C′ W′ H′ (band k h fs ∷ []) m → fs ≡ gs → Wrote t R C W H t′ R′ C′ W′ H′ (band k h gs ∷ []) m
+band-at {k} {h} p e = wrote-as p (λ i. band k h (e i) ∷ [])
 
 module _ {t : Tally} {R C : List ℕ} {W : List Float} {t′ : Tally} {R′ C′ : List ℕ} {W′ : List Float} {n m : ℕ} {v : ℕ → Float} {a b : ℕ} where
   -- down a diagonal

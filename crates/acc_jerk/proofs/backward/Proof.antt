@@ -1,8 +1,9 @@
+use mathlib.Core.Path.{refl}
 use native.Mathlib.Omega.{arith}
 use borrow.Author.Tests.{lt-ltb, le-ltb}
 use Rattle.model.specs.Standard.{backwardRows}
 use Rattle.buffers.proofs.Laws.{wrote-skip}
-use Rattle.columns.proofs.Cells.{band3-at}
+use Rattle.columns.proofs.Cells.{band-at, at-column}
 use borrow.Author.Needs.{needs}
 use Rattle.acc_jerk.proofs.backward.Statement.{statement}
 use Rattle.acc_jerk.proofs.backward.Tie as tie
@@ -13,7 +14,7 @@ returns-2 c =
     let c8 = c .before .before .before .before .before .before .before .before in let c13 = c8 .before .before .before .before .before in let c14 = c13 .before in
     let c15 = c14 .before in let c16 = c15 .before in let c17 = c16 .before in let c19 = c17 .before .before in
     let c31 = c19 .before .before .before .before .before .before .before .before .before .before .before .before in
-    rw (lt-ltb (c31 .args .ends .n0) (c31 .args .k) (omega (arith, (c19 .if1 .left))), ← (c31 .pre) .3, ← (c17 .wide .ensures), ← (c16 .spacing .ensures)) (band3-at (c8 .group .ensures) (c15 .column-a .ensures) (c14 .column-b .ensures) (c13 .column-b2 .ensures))
+    rw (lt-ltb (c31 .args .ends .n0) (c31 .args .k) (omega (arith, (c19 .if1 .left))), ← (c31 .pre) .3, ← (c17 .wide .ensures), ← (c16 .spacing .ensures)) (band-at (c8 .group .ensures) (at-column (c15 .column-a .ensures) (at-column (c14 .column-b .ensures) (at-column (c13 .column-b2 .ensures) refl))))
 
 pub backward-spec : {M : Type 1} → statement M
 backward-spec =

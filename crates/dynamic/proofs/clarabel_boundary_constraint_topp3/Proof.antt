@@ -1,7 +1,8 @@
+use mathlib.Core.Path.{refl}
 use native.Mathlib.Omega.{arith}
 use Rattle.model.specs.Standard.{boundaryRows}
 use Rattle.buffers.proofs.Laws.{wrote-then, wrote-rows, wrote-columns, wrote-values, wrote-right}
-use Rattle.columns.proofs.Cells.{row1-at}
+use Rattle.columns.proofs.Cells.{band-at, at-column}
 use borrow.Author.Needs.{needs}
 use Rattle.dynamic.proofs.clarabel_boundary_constraint_topp3.Statement.{statement}
 use Rattle.dynamic.proofs.clarabel_boundary_constraint_topp3.Tie as tie
@@ -13,7 +14,7 @@ returns c =
     let c22 = c13 .before .before .before .before .before .before .before .before .before in let c27 = c22 .before .before .before .before .before in
     let c36 = c27 .before .before .before .before .before .before .before .before .before in let c41 = c36 .before .before .before .before .before in
     let c50 = c41 .before .before .before .before .before .before .before .before .before in let c55 = c50 .before .before .before .before .before in
-    wrote-then (wrote-then (wrote-then (row1-at (c50 .row1 .ensures) (c55 .column-a .ensures)) (row1-at (c36 .row12 .ensures) (c41 .column-a2 .ensures))) (row1-at (c22 .row13 .ensures) (c27 .column-b .ensures))) (row1-at (c8 .row14 .ensures) (c13 .column-b2 .ensures))
+    wrote-then (wrote-then (wrote-then (band-at (c50 .row1 .ensures) (at-column (c55 .column-a .ensures) refl)) (band-at (c36 .row12 .ensures) (at-column (c41 .column-a2 .ensures) refl))) (band-at (c22 .row13 .ensures) (at-column (c27 .column-b .ensures) refl))) (band-at (c8 .row14 .ensures) (at-column (c13 .column-b2 .ensures) refl))
 
 pub clarabel-boundary-constraint-topp3-spec : {M : Type 1} → statement M
 clarabel-boundary-constraint-topp3-spec =

@@ -1,5 +1,6 @@
+use mathlib.Core.Path.{refl}
 use Rattle.model.specs.Standard.{stationaryRow}
-use Rattle.columns.proofs.Cells.{row2-at}
+use Rattle.columns.proofs.Cells.{band-at, at-column}
 use borrow.Author.Needs.{needs}
 use Rattle.dynamic.proofs.clarabel_dynamic_stationary_topp3.Statement.{statement}
 use Rattle.dynamic.proofs.clarabel_dynamic_stationary_topp3.Tie as tie
@@ -8,7 +9,7 @@ returns : tie.Need-returns
 unfolding stationaryRow
 returns c =
     let c8 = c .before .before .before .before .before .before .before .before in let c13 = c8 .before .before .before .before .before in let c14 = c13 .before in
-    row2-at (c8 .row2 .ensures) (c14 .column-a .ensures) (c13 .column-b .ensures)
+    band-at (c8 .row2 .ensures) (at-column (c14 .column-a .ensures) (at-column (c13 .column-b .ensures) refl))
 
 pub clarabel-dynamic-stationary-topp3-spec : {M : Type 1} → statement M
 clarabel-dynamic-stationary-topp3-spec =

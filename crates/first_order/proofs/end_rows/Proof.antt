@@ -1,7 +1,8 @@
+use mathlib.Core.Path.{refl}
 use native.Mathlib.Omega.{arith}
 use Rattle.model.specs.Standard.{endRows}
 use Rattle.buffers.proofs.Laws.{wrote-then}
-use Rattle.columns.proofs.Cells.{row1-at}
+use Rattle.columns.proofs.Cells.{band-at, at-column}
 use borrow.Author.Needs.{needs}
 use Rattle.first_order.proofs.end_rows.Statement.{statement}
 use Rattle.first_order.proofs.end_rows.Tie as tie
@@ -11,7 +12,7 @@ unfolding endRows
 returns c =
     let c8 = c .before .before .before .before .before .before .before .before in let c14 = c8 .before .before .before .before .before .before in
     let c23 = c14 .before .before .before .before .before .before .before .before .before in
-    wrote-then (c23 .upper .ensures) (row1-at (c8 .row1 .ensures) (c14 .column-a .ensures))
+    wrote-then (c23 .upper .ensures) (band-at (c8 .row1 .ensures) (at-column (c14 .column-a .ensures) refl))
 
 pub end-rows-spec : {M : Type 1} → statement M
 end-rows-spec =

@@ -1,7 +1,8 @@
+use mathlib.Core.Path.{refl}
 use native.Mathlib.Omega.{arith}
 use Rattle.model.specs.Standard.{intervalRows}
 use Rattle.buffers.proofs.Laws.{wrote-then}
-use Rattle.columns.proofs.Cells.{row2-at, row3-at}
+use Rattle.columns.proofs.Cells.{band-at, at-column}
 use borrow.Author.Needs.{needs}
 use Rattle.first_order.proofs.interval.Statement.{statement}
 use Rattle.first_order.proofs.interval.Tie as tie
@@ -12,7 +13,7 @@ returns c =
     let c8 = c .before .before .before .before .before .before .before .before in
     let c21 = c8 .before .before .before .before .before .before .before .before .before .before .before .before .before in
     let c26 = c21 .before .before .before .before .before in let c27 = c26 .before in let c28 = c27 .before in let c29 = c28 .before in
-    rw (← (c29 .spacing .ensures)) (wrote-then (row2-at (c21 .row2 .ensures) (c28 .column-a .ensures) (c27 .column-b .ensures)) (row3-at (c8 .row3 .ensures) (c28 .column-a .ensures) (c27 .column-b .ensures) (c26 .column-b2 .ensures)))
+    rw (← (c29 .spacing .ensures)) (wrote-then (band-at (c21 .row2 .ensures) (at-column (c28 .column-a .ensures) (at-column (c27 .column-b .ensures) refl))) (band-at (c8 .row3 .ensures) (at-column (c28 .column-a .ensures) (at-column (c27 .column-b .ensures) (at-column (c26 .column-b2 .ensures) refl)))))
 
 pub interval-spec : {M : Type 1} → statement M
 interval-spec =

@@ -1,9 +1,9 @@
 use native.Mathlib.Omega.{arith}
-use mathlib.Core.Path.{sym, _∙_}
+use mathlib.Core.Path.{sym, _∙_, refl}
 use Rattle.model.specs.Standard.{upperRow}
 use Rattle.buffers.proofs.Laws.{wrote-skip}
 use Rattle.first_order.proofs.Tests.{not-true, not-false}
-use Rattle.columns.proofs.Cells.{row1-at}
+use Rattle.columns.proofs.Cells.{band-at, at-column}
 use borrow.Author.Needs.{needs}
 use Rattle.first_order.proofs.upper.Statement.{statement}
 use Rattle.first_order.proofs.upper.Tie as tie
@@ -17,7 +17,7 @@ unfolding upperRow
 returns-2 c =
     let c8 = c .before .before .before .before .before .before .before .before in let c13 = c8 .before .before .before .before .before in let c14 = c13 .before in
     let c15 = c14 .before in
-    rw (sym (c15 .is-finite .ensures) ∙ not-false (c15 .is-finite .result) (c14 .if1 .left)) (row1-at (c8 .row1 .ensures) (c13 .column-a .ensures))
+    rw (sym (c15 .is-finite .ensures) ∙ not-false (c15 .is-finite .result) (c14 .if1 .left)) (band-at (c8 .row1 .ensures) (at-column (c13 .column-a .ensures) refl))
 
 pub upper-spec : {M : Type 1} → statement M
 upper-spec =

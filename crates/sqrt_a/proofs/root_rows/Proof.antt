@@ -1,8 +1,9 @@
+use mathlib.Core.Path.{refl}
 use native.Mathlib.Omega.{arith}
 use Rattle.model.specs.Problem.{skip}
 use Rattle.model.specs.Standard.{rootCone}
 use Rattle.buffers.proofs.Laws.{wrote-then, wrote-rows, wrote-columns, wrote-values, wrote-right}
-use Rattle.columns.proofs.Cells.{row1-at}
+use Rattle.columns.proofs.Cells.{band-at, at-column}
 use borrow.Author.Needs.{needs}
 use Rattle.sqrt_a.proofs.root_rows.Statement.{statement}
 use Rattle.sqrt_a.proofs.root_rows.Tie as tie
@@ -14,7 +15,7 @@ returns c =
     let c22 = c13 .before .before .before .before .before .before .before .before .before in
     let c35 = c22 .before .before .before .before .before .before .before .before .before .before .before .before .before in
     let c40 = c35 .before .before .before .before .before in let c41 = c40 .before in
-    rw (← (c41 .larger .ensures)) (wrote-then (wrote-then (row1-at (c35 .row1 .ensures) (c40 .column-a .ensures)) (row1-at (c22 .row12 .ensures) (c40 .column-a .ensures))) (row1-at (c8 .row13 .ensures) (c13 .column-xi .ensures)))
+    rw (← (c41 .larger .ensures)) (wrote-then (wrote-then (band-at (c35 .row1 .ensures) (at-column (c40 .column-a .ensures) refl)) (band-at (c22 .row12 .ensures) (at-column (c40 .column-a .ensures) refl))) (band-at (c8 .row13 .ensures) (at-column (c13 .column-xi .ensures) refl)))
 
 pub root-rows-spec : {M : Type 1} → statement M
 root-rows-spec =

@@ -2,7 +2,7 @@ use native.Mathlib.Omega.{arith}
 use mathlib.Core.Path.{refl}
 use Rattle.model.specs.Objectives.{timeCone}
 use Rattle.buffers.proofs.Laws.{wrote-then, wrote-rows, wrote-columns, wrote-values, wrote-right}
-use Rattle.columns.proofs.Cells.{row2-at}
+use Rattle.columns.proofs.Cells.{band-at, at-column}
 use Rattle.time.proofs.time_rows.Statement.{statement}
 use Rattle.time.proofs.time_rows.Tie as tie
 
@@ -13,7 +13,7 @@ returns c =
     let c21 = c8 .before .before .before .before .before .before .before .before .before .before .before .before .before in
     let c35 = c21 .before .before .before .before .before .before .before .before .before .before .before .before .before .before in
     let c41 = c35 .before .before .before .before .before .before in
-    wrote-then (wrote-then (row2-at (c35 .row2 .ensures) (c41 .column-xi .ensures) refl) (row2-at (c21 .row22 .ensures) (c41 .column-xi .ensures) refl)) (c8 .row0 .ensures)
+    wrote-then (wrote-then (band-at (c35 .row2 .ensures) (at-column (c41 .column-xi .ensures) refl)) (band-at (c21 .row22 .ensures) (at-column (c41 .column-xi .ensures) refl))) (c8 .row0 .ensures)
 
 pub time-rows-spec : {M : Type 1} → statement M
 time-rows-spec =

@@ -4,7 +4,7 @@ use lib.ListN.{length}
 use denote.Ref.{now}
 use Rattle.model.specs.Objectives.{endTorqueRows}
 use Rattle.buffers.proofs.Laws.{wrote-then}
-use Rattle.columns.proofs.Cells.{row3-at}
+use Rattle.columns.proofs.Cells.{band-at, at-column}
 use Rattle.torque.proofs.Facts.{within}
 use borrow.Author.Needs.{needs}
 use Rattle.tv_torque.proofs.end_rows.Statement.{statement}
@@ -17,7 +17,7 @@ returns c =
     let c21 = c8 .before .before .before .before .before .before .before .before .before .before .before .before .before in
     let c26 = c21 .before .before .before .before .before in let c27 = c26 .before in let c28 = c27 .before in let c29 = c28 .before in let c30 = c29 .before in
     let c31 = c30 .before in
-    rw (← (c29 .scaled .ensures), ← (c28 .scaled2 .ensures), ← (c27 .scaled3 .ensures), ← (c26 .scaled4 .ensures)) (wrote-then (row3-at (c21 .row3 .ensures) (c31 .column-a .ensures) (c30 .column-b .ensures) refl) (row3-at (c8 .row32 .ensures) (c31 .column-a .ensures) (c30 .column-b .ensures) refl))
+    rw (← (c29 .scaled .ensures), ← (c28 .scaled2 .ensures), ← (c27 .scaled3 .ensures), ← (c26 .scaled4 .ensures)) (wrote-then (band-at (c21 .row3 .ensures) (at-column (c31 .column-a .ensures) (at-column (c30 .column-b .ensures) refl))) (band-at (c8 .row32 .ensures) (at-column (c31 .column-a .ensures) (at-column (c30 .column-b .ensures) refl))))
 
 pub end-rows-spec : {M : Type 1} → statement M
 end-rows-spec =

@@ -1,6 +1,7 @@
+use mathlib.Core.Path.{refl}
 use native.Mathlib.Omega.{arith}
 use Rattle.buffers.proofs.Laws.{wrote-rows, wrote-columns, wrote-values, wrote-right}
-use Rattle.columns.proofs.Cells.{row5-at}
+use Rattle.columns.proofs.Cells.{band-at, at-column}
 use Rattle.tv_torque.proofs.step_row.Statement.{statement}
 use Rattle.tv_torque.proofs.step_row.Tie as tie
 
@@ -8,7 +9,7 @@ returns : tie.Need-returns
 returns c =
     let c8 = c .before .before .before .before .before .before .before .before in let c13 = c8 .before .before .before .before .before in let c14 = c13 .before in
     let c15 = c14 .before in let c16 = c15 .before in
-    row5-at (c8 .row5 .ensures) (c16 .column-a .ensures) (c15 .column-a2 .ensures) (c14 .column-b .ensures) (c13 .column-b2 .ensures)
+    band-at (c8 .row5 .ensures) (at-column (c16 .column-a .ensures) (at-column (c15 .column-a2 .ensures) (at-column (c14 .column-b .ensures) (at-column (c13 .column-b2 .ensures) refl))))
 
 pub step-row-spec : {M : Type 1} → statement M
 step-row-spec =
