@@ -22,8 +22,13 @@ ROOT = os.path.dirname(os.path.dirname(os.path.abspath(__file__)))
 WORDS = {'u8': 'w8', 'u16': 'w16', 'u32': 'w32', 'u64': 'w64', 'usize': 'w64'}
 WIDTH = 160
 
-SOURCE = re.sub(r'//[^\n]*', '', open(f'{ROOT}/crates/{CRATE}/src/lib.rt').read())
-ENUMS = {e for f in glob.glob(f'{ROOT}/crates/*/src/*.rt') for e in re.findall(r'\benum\s+(\w+)', open(f).read())}
+
+def read(path):
+    with open(path, encoding='utf-8') as file: return file.read()
+
+
+SOURCE = re.sub(r'//[^\n]*', '', read(f'{ROOT}/crates/{CRATE}/src/lib.rt'))
+ENUMS = {e for f in glob.glob(f'{ROOT}/crates/*/src/*.rt') for e in re.findall(r'\benum\s+(\w+)', read(f))}
 
 
 def module(path):
@@ -36,7 +41,7 @@ def module(path):
 def passed_on():
     """What Thin.antt passes on by `pub use`, for each module."""
     out = {}
-    for line in open(f'{ROOT}/crates/{CRATE}/proofs/Thin.antt'):
+    for line in read(f'{ROOT}/crates/{CRATE}/proofs/Thin.antt').splitlines():
         if line.startswith('pub use ') and '.{' in line:
             key, names = line[8:].rstrip().rstrip('}').split('.{')
             out[key] = {n.strip() for n in names.split(',')}
@@ -324,10 +329,10 @@ def main():
         file = f'crates/{CRATE}/proofs/{F}/Proof.antt'
         path, text = f'{ROOT}/{file}', proof(F)
         if check:
-            if not os.path.exists(path) or open(path).read() != text: bad += 1; print(f'lent_stages: {file} is not what tools/lent_stages.py writes', file=sys.stderr)
+            if not os.path.exists(path) or read(path) != text: bad += 1; print(f'lent_stages: {file} is not what tools/lent_stages.py writes', file=sys.stderr)
         else:
             os.makedirs(os.path.dirname(path), exist_ok=True)
-            open(path, 'w').write(text)
+            with open(path, 'w', encoding='utf-8') as out: out.write(text)
     if bad: sys.exit(1)
     print(f'lent_stages: {len(functions)} proofs ' + ('are as written' if check else 'written'))
 
