@@ -1,0 +1,147 @@
+// The pattern of the matrix as a picture.
+ghost use mathlib.Core.Path.{_≡_};
+ghost use mathlib.Core.Bool.{_&&_};
+ghost use mathlib.Core.List.{[], _∷_};
+ghost use lib.Dec.{eqb};
+ghost use lib.ListN.{getD};
+ghost use Rattle.model.specs.Lent.{atEntry};
+ghost use Rattle.model.specs.Lists.{over};
+ghost use Rattle.text.specs.Text.{says};
+ghost use Rattle.listing.specs.Columns.{layout, letterAt};
+ghost use Rattle.listing.specs.Rows.{matrix};
+ghost use Rattle.listing.specs.Pattern.{signMark, markFrom, pictureRow};
+ghost use Rattle.listing.specs.Pattern.{picture as Pattern·picture};
+use crate::columns::letter_at;
+use crate::rows::float_at;
+use crate::rows::number_at;
+use model::Objective;
+use text::words;
+
+fn sign_mark(x: f64) -> u8
+    ensures { λ r. ⌜ r ≡ signMark x ⌝ }
+{
+    if 0.0 < x {
+        return b'+';
+    }
+    if x < 0.0 {
+        return b'-';
+    }
+    b'0'
+}
+
+// Whether entry i stands at row r and column k.
+fn stands_at(rows: &[u32], columns: &[u32], i: usize, r: usize, k: usize) -> bool
+    ensures { λ t. ⌜ t ≡ (eqb (getD (atEntry rows) i 0) r && eqb (getD (atEntry columns) i 0) k) ⌝ }
+{
+    (number_at(rows, i) == r) & (number_at(columns, i) == k)
+}
+
+// The mark of row r and column k: that of the first entry there.
+fn mark(rows: &[u32], columns: &[u32], values: &[f64], entries: usize, r: usize, k: usize) -> u8
+    ensures { λ t. ⌜ t ≡ markFrom (matrix (atEntry rows) (atEntry columns) (atEntry values)) r k 0 entries ⌝ }
+{
+    for i in 0..entries {
+        if stands_at(rows, columns, i, r, k) {
+            return sign_mark(float_at(values, i));
+        }
+    }
+    b'.'
+}
+
+fn marks(
+    out: &mut [u8],
+    at: usize,
+    rows: &[u32],
+    columns: &[u32],
+    values: &[f64],
+    entries: usize,
+    width: usize,
+    r: usize,
+) -> usize
+    ensures { λ t. ⌜ says (over (λ k. markFrom (matrix (atEntry rows) (atEntry columns) (atEntry values)) r k 0 entries ∷ []) 0 width) out at t ⌝ }
+{
+    let mut next = at;
+    for k in 0..width {
+        next = text::put(out, next, mark(rows, columns, values, entries, r, k));
+    }
+    next
+}
+
+fn picture_row(
+    out: &mut [u8],
+    at: usize,
+    rows: &[u32],
+    columns: &[u32],
+    values: &[f64],
+    entries: usize,
+    width: usize,
+    r: usize,
+) -> usize
+    ensures { λ t. ⌜ says (pictureRow (matrix (atEntry rows) (atEntry columns) (atEntry values)) entries width r) out at t ⌝ }
+{
+    let first = words(out, at, b"  ");
+    let behind = marks(out, first, rows, columns, values, entries, width, r);
+    let number = words(out, behind, b"  ");
+    let end = text::decimal(out, number, r as u64);
+    words(out, end, b"\n")
+}
+
+fn letters(
+    out: &mut [u8],
+    at: usize,
+    stations: usize,
+    objectives: [Objective; 16],
+    count: usize,
+    index: &[usize],
+    width: usize,
+) -> usize
+    ensures { λ r. ⌜ says (over (λ k. letterAt (layout stations objectives count (atEntry index)) k ∷ []) 0 width) out at r ⌝ }
+{
+    let mut next = at;
+    for k in 0..width {
+        next = text::put(out, next, letter_at(stations, objectives, count, index, k));
+    }
+    next
+}
+
+fn picture_rows(
+    out: &mut [u8],
+    at: usize,
+    rows: &[u32],
+    columns: &[u32],
+    values: &[f64],
+    entries: usize,
+    height: usize,
+    width: usize,
+) -> usize
+    ensures { λ t. ⌜ says (over (pictureRow (matrix (atEntry rows) (atEntry columns) (atEntry values)) entries width) 0 height) out at t ⌝ }
+{
+    let mut next = at;
+    for r in 0..height {
+        next = picture_row(out, next, rows, columns, values, entries, width, r);
+    }
+    next
+}
+
+// The whole picture: the first letters of the columns' words, and a line for each row.
+pub fn picture(
+    out: &mut [u8],
+    at: usize,
+    stations: usize,
+    objectives: [Objective; 16],
+    count: usize,
+    index: &[usize],
+    rows: &[u32],
+    columns: &[u32],
+    values: &[f64],
+    entries: usize,
+    height: usize,
+    width: usize,
+) -> usize
+    ensures { λ t. ⌜ says (Pattern·picture (layout stations objectives count (atEntry index)) (matrix (atEntry rows) (atEntry columns) (atEntry values)) entries height width) out at t ⌝ }
+{
+    let first = words(out, at, b"pattern:\n  ");
+    let end = letters(out, first, stations, objectives, count, index, width);
+    let next = words(out, end, b"\n");
+    picture_rows(out, next, rows, columns, values, entries, height, width)
+}

@@ -1,0 +1,43 @@
+-- `text::double::fraction` meets its contract.
+use Rattle.text.proofs.Doubles.{fraction-tells}
+use Rattle.text.proofs.Laws.{after, nothing, renamed}
+use borrow.Author.Tests.{eq-eqb, ne-eqb}
+use mathlib.Core.Bool.{true, false}
+use mathlib.Core.Path.{refl}
+use borrow.Author.Needs.{needs}
+use Rattle.text.proofs.double.fraction.Statement.{statement}
+use Rattle.text.proofs.double.fraction.Tie as tie
+
+returns : tie.Need-returns
+returns c = renamed (fraction-tells _ true _ _ _ (eq-eqb _ _ (c .if1 .taken)) refl refl refl) (nothing _ _)
+
+returns-2 : tie.Need-returns-2
+returns-2 c = renamed (fraction-tells _ false true _ _ (ne-eqb _ _ (c .before .before .before .before .before .before .before .before .before .if1 .left)) (eq-eqb _ _ (c .before .before .before .before .if2 .taken)) refl refl) (after (c .before .before .before .before .before .before .before .put .ensures) (c .before .before .digits .ensures))
+
+returns-3 : tie.Need-returns-3
+returns-3 c = renamed (fraction-tells _ false false true _ (ne-eqb _ _ (c .before .before .before .before .before .before .before .before .before .before .if1 .left)) (ne-eqb _ _ (c .before .before .before .before .before .if2 .left)) (eq-eqb _ _ (c .before .before .before .before .if3 .taken)) refl) (after (c .before .before .before .before .before .before .before .before .put .ensures) (c .before .before .digits2 .ensures))
+
+returns-4 : tie.Need-returns-4
+returns-4 c = renamed (fraction-tells _ false false false true (ne-eqb _ _ (c .before .before .before .before .before .before .before .before .before .before .before .if1 .left)) (ne-eqb _ _ (c .before .before .before .before .before .before .if2 .left)) (ne-eqb _ _ (c .before .before .before .before .before .if3 .left)) (eq-eqb _ _ (c .before .before .before .before .if4 .taken))) (after (c .before .before .before .before .before .before .before .before .before .put .ensures) (c .before .before .digits3 .ensures))
+
+returns-5 : tie.Need-returns-5
+returns-5 c = renamed (fraction-tells _ false false false false (ne-eqb _ _ (c .before .before .before .before .before .before .before .before .before .before .before .if1 .left)) (ne-eqb _ _ (c .before .before .before .before .before .before .if2 .left)) (ne-eqb _ _ (c .before .before .before .before .before .if3 .left)) (ne-eqb _ _ (c .before .before .before .before .if4 .left))) (after (c .before .before .before .before .before .before .before .before .before .put .ensures) (c .before .before .digits4 .ensures))
+
+pub fraction-spec : {M : Type 1} → statement M
+fraction-spec =
+    tie.close
+    (tie.spec
+    returns
+    (λ c κs. search needs)
+    (λ c κs. search needs)
+    (λ c. search needs)
+    returns-2
+    (λ c κs. search needs)
+    (λ c. search needs)
+    returns-3
+    (λ c κs. search needs)
+    (λ c. search needs)
+    returns-4
+    (λ c κs. search needs)
+    (λ c. search needs)
+    returns-5)

@@ -1,0 +1,5 @@
+//! Prints what `show` has to print: `cargo run --release -p shown`.
+
+fn main() {
+    print!("{}", shown::whole());
+}
