@@ -1,10 +1,8 @@
 -- Text that a loop writes, and text that a test chooses.
-use Prim.Native.Nat.{ℕ, zero, suc, _+_, _-_, _≤_, _<_}
-use mathlib.Core.Path.{_≡_, refl, sym, ap, _∙_}
+use Prim.Native.Nat.{ℕ, suc, _+_, _-_, _≤_}
+use mathlib.Core.Path.{_≡_, sym, ap, _∙_}
 use mathlib.Core.Bool.{Bool, cond}
-use mathlib.Core.List.{List, [], _∷_, _++_}
-use lib.ListN.{length, getD}
-use native.Mathlib.Nat.{not-suc-le-zero, le-of-suc-le-suc}
+use mathlib.Core.List.{List, _++_}
 use native.Mathlib.Omega.{arith}
 use Rattle.model.specs.Lists.{over}
 use Rattle.buffers.proofs.Laws.{over-snoc}
@@ -32,9 +30,3 @@ from-zero f n x = let e : n - 0 ≡ n = omega arith in renamed (ap (over f 0) e)
 -- what a test chooses
 pub chosen : {A : Type 0} (x y : A) {b d : Bool} → b ≡ d → cond d x y ≡ cond b x y
 chosen x y e = ap (λ (b : Bool). cond b x y) (sym e)
-
--- an element is the same whatever stands for those past the end
-pub within : {A : Type 0} (l : List A) (i : ℕ) (d e : A) → i < length l → getD l i d ≡ getD l i e
-within [] i d e h = absurd (not-suc-le-zero h)
-within (x ∷ l) zero d e h = refl
-within (x ∷ l) (suc i) d e h = within l i d e (le-of-suc-le-suc h)

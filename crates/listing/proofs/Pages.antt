@@ -7,10 +7,10 @@ use Rattle.model.specs.Answers.{Buffers}
 use Rattle.model.specs.declared.Answer.{Answer}
 use Rattle.model.specs.declared.Answer.the-variants.{Refusal, Counts}
 use Rattle.model.specs.declared.Objective.{Objective}
-use Rattle.listing.specs.Columns.{layout}
+use Rattle.column_names.specs.Columns.{layout}
 use Rattle.listing.specs.Rows.{cone, costLine}
 use Rattle.listing.specs.Pattern.{picture}
-use Rattle.listing.specs.Refusals.{refused}
+use Rattle.refusal_words.specs.Refusals.{refused}
 use Rattle.listing.specs.Page.{countsLine, matrixOf, pageOf}
 
 module _ (stations : ℕ) (slots : List Objective) (count : ℕ) (b : Buffers) {x : Answer} where

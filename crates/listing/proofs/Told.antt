@@ -10,7 +10,7 @@ use native.Mathlib.Omega.{arith}
 use borrow.Author.Tests.{eq-eqb, ne-eqb}
 use Rattle.model.specs.Numbers.{at, +0}
 use Rattle.model.specs.Lists.{over}
-use Rattle.listing.specs.Columns.{letter, Layout}
+use Rattle.column_names.specs.Columns.{letter, Layout}
 use Rattle.listing.specs.Rows.{Matrix, term, entry, row, charge, kindWord, coneHead, firstRow, cone}
 use Rattle.listing.specs.Pattern.{signMark, markFrom}
 use Rattle.text.specs.Text.{ascii}

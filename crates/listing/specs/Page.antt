@@ -8,10 +8,10 @@ use Rattle.model.specs.declared.Answer.the-variants.{Refusal, Counts}
 use Rattle.model.specs.declared.Objective.{Objective}
 use Rattle.text.specs.Text.{ascii}
 use Rattle.text.specs.Digits.{decimal}
-use Rattle.listing.specs.Columns.{Layout, layout}
+use Rattle.column_names.specs.Columns.{Layout, layout}
 use Rattle.listing.specs.Rows.{Matrix, matrix, cone, costLine}
 use Rattle.listing.specs.Pattern.{picture}
-use Rattle.listing.specs.Refusals.{refused}
+use Rattle.refusal_words.specs.Refusals.{refused}
 
 unfoldable pub countsLine : ℕ → ℕ → ℕ → ℕ → List ℕ
 countsLine e r c k =

@@ -9,7 +9,7 @@ use Rattle.model.specs.Numbers.{at, +0}
 use Rattle.model.specs.Lists.{over}
 use Rattle.text.specs.Text.{ascii}
 use Rattle.text.specs.Digits.{decimal}
-use Rattle.listing.specs.Columns.{letter, Layout, letterAt}
+use Rattle.column_names.specs.Columns.{letter, Layout, letterAt}
 use Rattle.listing.specs.Rows.{Matrix}
 
 -- "`+` for an entry above 0, `-` below 0, `0` for a zero that is stored"

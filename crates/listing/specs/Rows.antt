@@ -10,7 +10,7 @@ use Rattle.model.specs.Lists.{over}
 use Rattle.text.specs.Text.{ascii}
 use Rattle.text.specs.Digits.{decimal}
 use Rattle.text.specs.Number.{minus, number}
-use Rattle.listing.specs.Columns.{Layout, name, rowOwner}
+use Rattle.column_names.specs.Columns.{Layout, name, rowOwner}
 
 -- `·` (U+00B7) in UTF-8
 abbrev pub dot : List ℕ

@@ -5,12 +5,12 @@ ghost use lib.ListN.{getD};
 ghost use Rattle.model.specs.Lent.{atEntry};
 ghost use Rattle.model.specs.Lists.{over};
 ghost use Rattle.text.specs.Text.{says};
-ghost use Rattle.listing.specs.Columns.{layout};
+ghost use Rattle.column_names.specs.Columns.{layout};
 ghost use Rattle.listing.specs.Rows.{matrix, kindWord, coneHead};
 ghost use Rattle.listing.specs.Rows.{cone as Rows·cone, row as Rows·row};
-use crate::columns::row_owner;
 use crate::rows::number_at;
 use crate::rows::row;
+use column_names::row_owner;
 use model::Objective;
 use text::words;
 

@@ -1,8 +1,6 @@
 // An assembled problem as text, for a person: docs/LISTING.md. Every writer takes the buffer and the place of its first byte, and answers the place after its last.
-mod columns;
 mod cones;
 mod pattern;
-mod refusal;
 mod rows;
 
 ghost use Rattle.model.specs.Lent.{buffersBefore};
@@ -53,7 +51,7 @@ pub fn page(
     ensures { λ r. ⌜ says (pageOf stations objectives count answer (buffersBefore rows columns values right kinds dimensions cost index)) out at r ⌝ }
 {
     match answer {
-        Answer::Refusal { number, place } => refusal::refused(out, at, number, place),
+        Answer::Refusal { number, place } => refusal_words::refused(out, at, number, place),
         Answer::Counts {
             entries,
             rows: height,

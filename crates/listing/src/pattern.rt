@@ -7,13 +7,13 @@ ghost use lib.ListN.{getD};
 ghost use Rattle.model.specs.Lent.{atEntry};
 ghost use Rattle.model.specs.Lists.{over};
 ghost use Rattle.text.specs.Text.{says};
-ghost use Rattle.listing.specs.Columns.{layout, letterAt};
+ghost use Rattle.column_names.specs.Columns.{layout, letterAt};
 ghost use Rattle.listing.specs.Rows.{matrix};
 ghost use Rattle.listing.specs.Pattern.{signMark, markFrom, pictureRow};
 ghost use Rattle.listing.specs.Pattern.{picture as Pattern·picture};
-use crate::columns::letter_at;
 use crate::rows::float_at;
 use crate::rows::number_at;
+use column_names::letter_at;
 use model::Objective;
 use text::words;
 

@@ -6,10 +6,10 @@ ghost use Rattle.model.specs.Lent.{atEntry};
 ghost use Rattle.model.specs.Lists.{over};
 ghost use Rattle.model.specs.Numbers.{at as Numbers·at};
 ghost use Rattle.text.specs.Text.{says};
-ghost use Rattle.listing.specs.Columns.{layout};
+ghost use Rattle.column_names.specs.Columns.{layout};
 ghost use Rattle.listing.specs.Rows.{matrix, costLine};
 ghost use Rattle.listing.specs.Rows.{plus as Rows·plus, term as Rows·term, entry as Rows·entry, row as Rows·row, charge as Rows·charge};
-use crate::columns::name;
+use column_names::name;
 use model::Objective;
 use text::words;
 

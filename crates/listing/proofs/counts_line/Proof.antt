@@ -7,11 +7,15 @@ use Rattle.listing.proofs.counts_line.Statement.{statement}
 use Rattle.listing.proofs.counts_line.Tie as tie
 
 same-length : tie.Need-same-length
-same-length c = (c .before .before .words5 .kept .0) ∙ (c .before .before .before .before .before .before .before .decimal4 .kept .0) ∙ (c .before .before .before .before .before .before .before .before .before .before .before .words4 .kept .0) ∙ (c .before .before .before .before .before .before .before .before .before .before .before .before .before .before .before .before .decimal3 .kept .0) ∙ (c .before .before .before .before .before .before .before .before .before .before .before .before .before .before .before .before .before .before .before .before .words3 .kept .0) ∙ (c .before .before .before .before .before .before .before .before .before .before .before .before .before .before .before .before .before .before .before .before .before .before .before .before .before .decimal2 .kept .0) ∙ (c .before .before .before .before .before .before .before .before .before .before .before .before .before .before .before .before .before .before .before .before .before .before .before .before .before .before .before .before .before .words2 .kept .0) ∙ (c .before .before .before .before .before .before .before .before .before .before .before .before .before .before .before .before .before .before .before .before .before .before .before .before .before .before .before .before .before .before .before .before .before .before .decimal .kept .0) ∙ (c .before .before .before .before .before .before .before .before .before .before .before .before .before .before .before .before .before .before .before .before .before .before .before .before .before .before .before .before .before .before .before .before .before .before .before .before .before .before .words .kept .0)
+same-length c =
+    let c2 = c .before .before in let c7 = c2 .before .before .before .before .before in let c11 = c7 .before .before .before .before in let c16 = c11 .before .before .before .before .before in let c20 = c16 .before .before .before .before in let c25 = c20 .before .before .before .before .before in let c29 = c25 .before .before .before .before in let c34 = c29 .before .before .before .before .before in let c38 = c34 .before .before .before .before in
+    (c2 .words5 .kept .0) ∙ (c7 .decimal4 .kept .0) ∙ (c11 .words4 .kept .0) ∙ (c16 .decimal3 .kept .0) ∙ (c20 .words3 .kept .0) ∙ (c25 .decimal2 .kept .0) ∙ (c29 .words2 .kept .0) ∙ (c34 .decimal .kept .0) ∙ (c38 .words .kept .0)
 
 returns : tie.Need-returns
 unfolding countsLine
-returns c = after (after (after (after (after (after (after (after (c .before .before .before .before .before .before .before .before .before .before .before .before .before .before .before .before .before .before .before .before .before .before .before .before .before .before .before .before .before .before .before .before .before .before .before .before .before .before .words .ensures) (c .before .before .before .before .before .before .before .before .before .before .before .before .before .before .before .before .before .before .before .before .before .before .before .before .before .before .before .before .before .before .before .before .before .before .decimal .ensures)) (c .before .before .before .before .before .before .before .before .before .before .before .before .before .before .before .before .before .before .before .before .before .before .before .before .before .before .before .before .before .words2 .ensures)) (c .before .before .before .before .before .before .before .before .before .before .before .before .before .before .before .before .before .before .before .before .before .before .before .before .before .decimal2 .ensures)) (c .before .before .before .before .before .before .before .before .before .before .before .before .before .before .before .before .before .before .before .before .words3 .ensures)) (c .before .before .before .before .before .before .before .before .before .before .before .before .before .before .before .before .decimal3 .ensures)) (c .before .before .before .before .before .before .before .before .before .before .before .words4 .ensures)) (c .before .before .before .before .before .before .before .decimal4 .ensures)) (c .before .before .words5 .ensures)
+returns c =
+    let c2 = c .before .before in let c7 = c2 .before .before .before .before .before in let c11 = c7 .before .before .before .before in let c16 = c11 .before .before .before .before .before in let c20 = c16 .before .before .before .before in let c25 = c20 .before .before .before .before .before in let c29 = c25 .before .before .before .before in let c34 = c29 .before .before .before .before .before in let c38 = c34 .before .before .before .before in
+    after (after (after (after (after (after (after (after (c38 .words .ensures) (c34 .decimal .ensures)) (c29 .words2 .ensures)) (c25 .decimal2 .ensures)) (c20 .words3 .ensures)) (c16 .decimal3 .ensures)) (c11 .words4 .ensures)) (c7 .decimal4 .ensures)) (c2 .words5 .ensures)
 
 pub counts-line-spec : {M : Type 1} → statement M
 counts-line-spec =

@@ -8,7 +8,9 @@ use Rattle.text.proofs.decimal.Statement.{statement}
 use Rattle.text.proofs.decimal.Tie as tie
 
 returns : tie.Need-returns
-returns c = renamed (ap (λ (k : ℕ). digits 10 k (c .before .before .before .before .before .before .args .n)) (c .before .before .before .places .ensures .0)) (c .before .before .digits .ensures)
+returns c =
+    let c2 = c .before .before in let c3 = c2 .before in let c6 = c3 .before .before .before in
+    renamed (ap (λ (k : ℕ). digits 10 k (c6 .args .n)) (c3 .places .ensures .0)) (c2 .digits .ensures)
 
 pub decimal-spec : {M : Type 1} → statement M
 decimal-spec =

@@ -20,7 +20,9 @@ loop-holds : tie.Need-loop-holds Inv-loop μ-loop
 loop-holds c = (search needs, search needs, nothing _ _)
 
 loop-again : tie.Need-loop-again Inv-loop μ-loop
-loop-again c = (omega arith, (c .before .before .put .kept .0) ∙ (c .before .before .before .before .before .before .loop .inv .1), next-byte (c .before .before .before .before .before .before .before .before .before .args .text .now) (c .before .before .before .before .before .before .loop .i) 0 (c .before .before .before .before .before .loop-test .taken) (c .before .before .before .before .before .before .loop .inv .2) (c .before .before .put .ensures))
+loop-again c =
+    let c2 = c .before .before in let c5 = c2 .before .before .before in let c6 = c5 .before in let c9 = c6 .before .before .before in
+    (omega arith, (c2 .put .kept .0) ∙ (c6 .loop .inv .1), next-byte (c9 .args .text .now) (c6 .loop .i) 0 (c5 .loop-test .taken) (c6 .loop .inv .2) (c2 .put .ensures))
 
 same-length : tie.Need-same-length Inv-loop μ-loop
 same-length c = (c .before .loop .inv .1)

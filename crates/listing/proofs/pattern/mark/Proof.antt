@@ -16,16 +16,28 @@ abbrev μ-loop : tie.MeasureT-loop
 μ-loop rows columns values entries r k i₀ i = entries - i
 
 loop-holds : tie.Need-loop-holds Inv-loop μ-loop
-loop-holds c = (omega arith, let e : (c .before .before .before .args .entries) - 0 ≡ (c .before .before .before .args .entries) = omega arith in ap (markFrom (matrix ((c .before .before .before .args .rows) .now) ((c .before .before .before .args .columns) .now) ((c .before .before .before .args .values) .now)) (c .before .before .before .args .r) (c .before .before .before .args .k) 0) e)
+loop-holds c =
+    let c3 = c .before .before .before in
+    let a = matrix (c3 .args .rows .now) (c3 .args .columns .now) (c3 .args .values .now) in
+    (omega arith, let e : (c3 .args .entries) - 0 ≡ (c3 .args .entries) = omega arith in ap (markFrom a (c3 .args .r) (c3 .args .k) 0) e)
 
 returns : tie.Need-returns Inv-loop μ-loop
-returns c = mark-here (matrix ((c .before .before .before .before .before .before .before .before .before .args .rows) .now) ((c .before .before .before .before .before .before .before .before .before .args .columns) .now) ((c .before .before .before .before .before .before .before .before .before .args .values) .now)) _ _ (c .before .before .before .before .before .loop .i) (c .before .before .before .before .before .before .before .before .before .args .entries) (c .before .before .before .before .loop-test .taken) (c .before .before .before .stands-at .ensures) (c .before .before .if1 .taken) (c .before .float-at .ensures) (c .sign-mark .ensures) ∙ (c .before .before .before .before .before .loop .inv .1)
+returns c =
+    let c1 = c .before in let c2 = c1 .before in let c3 = c2 .before in let c4 = c3 .before in let c5 = c4 .before in let c9 = c5 .before .before .before .before in
+    let a = matrix (c9 .args .rows .now) (c9 .args .columns .now) (c9 .args .values .now) in
+    mark-here a _ _ (c5 .loop .i) (c9 .args .entries) (c4 .loop-test .taken) (c3 .stands-at .ensures) (c2 .if1 .taken) (c1 .float-at .ensures) (c .sign-mark .ensures) ∙ (c5 .loop .inv .1)
 
 loop-again : tie.Need-loop-again Inv-loop μ-loop
-loop-again c = (omega arith, sym (mark-later (matrix ((c .before .before .before .before .before .before .before .args .rows) .now) ((c .before .before .before .before .before .before .before .args .columns) .now) ((c .before .before .before .before .before .before .before .args .values) .now)) _ _ (c .before .before .before .loop .i) (c .before .before .before .before .before .before .before .args .entries) (c .before .before .loop-test .taken) (c .before .stands-at .ensures) (c .if1 .left)) ∙ (c .before .before .before .loop .inv .1))
+loop-again c =
+    let c1 = c .before in let c2 = c1 .before in let c3 = c2 .before in let c7 = c3 .before .before .before .before in
+    let a = matrix (c7 .args .rows .now) (c7 .args .columns .now) (c7 .args .values .now) in
+    (omega arith, sym (mark-later a _ _ (c3 .loop .i) (c7 .args .entries) (c2 .loop-test .taken) (c1 .stands-at .ensures) (c .if1 .left)) ∙ (c3 .loop .inv .1))
 
 returns-2 : tie.Need-returns-2 Inv-loop μ-loop
-returns-2 c = mark-none (matrix ((c .before .before .before .before .before .args .rows) .now) ((c .before .before .before .before .before .args .columns) .now) ((c .before .before .before .before .before .args .values) .now)) _ _ (c .before .loop .i) (c .before .before .before .before .before .args .entries) (c .loop-test .left) ∙ (c .before .loop .inv .1)
+returns-2 c =
+    let c1 = c .before in let c5 = c1 .before .before .before .before in
+    let a = matrix (c5 .args .rows .now) (c5 .args .columns .now) (c5 .args .values .now) in
+    mark-none a _ _ (c1 .loop .i) (c5 .args .entries) (c .loop-test .left) ∙ (c1 .loop .inv .1)
 
 pub mark-spec : {M : Type 1} → statement M
 mark-spec =

@@ -21,16 +21,28 @@ abbrev μ-loop : tie.MeasureT-loop
 μ-loop out₀ at rows columns values entries width r next₀ k₀ out next k = width - k
 
 loop-holds : tie.Need-loop-holds Inv-loop μ-loop
-loop-holds c = (omega arith, omega arith, search needs, no-turn (λ (k : ℕ). markFrom (matrix ((c .before .before .before .before .args .rows) .now) ((c .before .before .before .before .args .columns) .now) ((c .before .before .before .before .args .values) .now)) (c .before .before .before .before .args .r) k 0 (c .before .before .before .before .args .entries) ∷ []) 0 _ _)
+loop-holds c =
+    let c4 = c .before .before .before .before in
+    let a = matrix (c4 .args .rows .now) (c4 .args .columns .now) (c4 .args .values .now) in
+    let f : ℕ → List ℕ = λ (k : ℕ). markFrom a (c4 .args .r) k 0 (c4 .args .entries) ∷ [] in
+    (omega arith, omega arith, search needs, no-turn f 0 _ _)
 
 loop-again : tie.Need-loop-again Inv-loop μ-loop
-loop-again c = (omega arith, omega arith, (c .before .before .put .kept .0) ∙ (c .before .before .before .before .before .before .loop .inv .2), turn (λ (k : ℕ). markFrom (matrix ((c .before .before .before .before .before .before .before .before .before .before .before .args .rows) .now) ((c .before .before .before .before .before .before .before .before .before .before .before .args .columns) .now) ((c .before .before .before .before .before .before .before .before .before .before .before .args .values) .now)) (c .before .before .before .before .before .before .before .before .before .before .before .args .r) k 0 (c .before .before .before .before .before .before .before .before .before .before .before .args .entries) ∷ []) 0 (c .before .before .before .before .before .before .loop .k) (c .before .before .before .before .before .before .loop .inv .0) (c .before .before .before .before .before .before .loop .inv .3) (renamed (ap (λ (b : ℕ). b ∷ []) (c .before .before .before .mark .ensures)) (c .before .before .put .ensures)))
+loop-again c =
+    let c2 = c .before .before in let c3 = c2 .before in let c6 = c3 .before .before .before in let c11 = c6 .before .before .before .before .before in
+    let a = matrix (c11 .args .rows .now) (c11 .args .columns .now) (c11 .args .values .now) in
+    let f : ℕ → List ℕ = λ (k : ℕ). markFrom a (c11 .args .r) k 0 (c11 .args .entries) ∷ [] in
+    (omega arith, omega arith, (c2 .put .kept .0) ∙ (c6 .loop .inv .2), turn f 0 (c6 .loop .k) (c6 .loop .inv .0) (c6 .loop .inv .3) (renamed (ap (λ (b : ℕ). b ∷ []) (c3 .mark .ensures)) (c2 .put .ensures)))
 
 same-length : tie.Need-same-length Inv-loop μ-loop
 same-length c = (c .before .loop .inv .2)
 
 returns : tie.Need-returns Inv-loop μ-loop
-returns c = from-zero (λ (k : ℕ). markFrom (matrix ((c .before .before .before .before .before .before .args .rows) .now) ((c .before .before .before .before .before .before .args .columns) .now) ((c .before .before .before .before .before .before .args .values) .now)) (c .before .before .before .before .before .before .args .r) k 0 (c .before .before .before .before .before .before .args .entries) ∷ []) (c .before .before .before .before .before .before .args .width) (all-turns (λ (k : ℕ). markFrom (matrix ((c .before .before .before .before .before .before .args .rows) .now) ((c .before .before .before .before .before .before .args .columns) .now) ((c .before .before .before .before .before .before .args .values) .now)) (c .before .before .before .before .before .before .args .r) k 0 (c .before .before .before .before .before .before .args .entries) ∷ []) 0 (c .before .loop .k) (c .before .before .before .before .before .before .args .width) (omega arith) (c .before .loop .inv .3))
+returns c =
+    let c1 = c .before in let c6 = c1 .before .before .before .before .before in
+    let a = matrix (c6 .args .rows .now) (c6 .args .columns .now) (c6 .args .values .now) in
+    let f : ℕ → List ℕ = λ (k : ℕ). markFrom a (c6 .args .r) k 0 (c6 .args .entries) ∷ [] in
+    from-zero f (c6 .args .width) (all-turns f 0 (c1 .loop .k) (c6 .args .width) (omega arith) (c1 .loop .inv .3))
 
 pub marks-spec : {M : Type 1} → statement M
 marks-spec =

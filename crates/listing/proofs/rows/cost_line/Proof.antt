@@ -7,11 +7,15 @@ use Rattle.listing.proofs.rows.cost_line.Statement.{statement}
 use Rattle.listing.proofs.rows.cost_line.Tie as tie
 
 same-length : tie.Need-same-length
-same-length c = (c .before .before .words2 .kept .0) ∙ (c .before .before .before .before .before .before .before .charges .kept .0) ∙ (c .before .before .before .before .before .before .before .before .before .before .before .words .kept .0)
+same-length c =
+    let c2 = c .before .before in let c7 = c2 .before .before .before .before .before in let c11 = c7 .before .before .before .before in
+    (c2 .words2 .kept .0) ∙ (c7 .charges .kept .0) ∙ (c11 .words .kept .0)
 
 returns : tie.Need-returns
 unfolding costLine
-returns c = after (after (c .before .before .before .before .before .before .before .before .before .before .before .words .ensures) (c .before .before .before .before .before .before .before .charges .ensures)) (c .before .before .words2 .ensures)
+returns c =
+    let c2 = c .before .before in let c7 = c2 .before .before .before .before .before in let c11 = c7 .before .before .before .before in
+    after (after (c11 .words .ensures) (c7 .charges .ensures)) (c2 .words2 .ensures)
 
 pub cost-line-spec : {M : Type 1} → statement M
 cost-line-spec =

@@ -8,7 +8,7 @@ use Rattle.listing.proofs.rows.float_at.Tie as tie
 
 returns-2 : tie.Need-returns-2
 unfolding div ofBits
-returns-2 c = sym (List·getD-eq-default ((c .before .args .xs) .now) nan {n = (c .before .args .i)} (c .if1 .left))
+returns-2 c = sym (List·getD-eq-default (c .before .args .xs .now) nan {n = (c .before .args .i)} (c .if1 .left))
 
 pub float-at-spec : {M : Type 1} → statement M
 float-at-spec =

@@ -6,7 +6,7 @@ use Rattle.listing.proofs.rows.number_at.Statement.{statement}
 use Rattle.listing.proofs.rows.number_at.Tie as tie
 
 returns-2 : tie.Need-returns-2
-returns-2 c = sym (List·getD-eq-default ((c .before .before .args .xs) .now) 0 {n = (c .before .before .args .i)} (c .if1 .left))
+returns-2 c = sym (List·getD-eq-default (c .before .before .args .xs .now) 0 {n = (c .before .before .args .i)} (c .if1 .left))
 
 pub number-at-spec : {M : Type 1} → statement M
 number-at-spec =

@@ -12,7 +12,9 @@ returns : tie.Need-returns
 returns c = renamed (chosen [] (ascii "+") (sym (c .before .minus .ensures) ∙ (c .if1 .taken))) (nothing _ _)
 
 returns-2 : tie.Need-returns-2
-returns-2 c = renamed (chosen [] (ascii "+") (sym (c .before .before .before .before .before .minus .ensures) ∙ (c .before .before .before .before .if1 .left))) (c .before .before .put .ensures)
+returns-2 c =
+    let c2 = c .before .before in let c4 = c2 .before .before in let c5 = c4 .before in
+    renamed (chosen [] (ascii "+") (sym (c5 .minus .ensures) ∙ (c4 .if1 .left))) (c2 .put .ensures)
 
 pub plus-spec : {M : Type 1} → statement M
 plus-spec =

@@ -7,7 +7,9 @@ use Rattle.listing.proofs.rows.term.Tie as tie
 
 returns : tie.Need-returns
 unfolding term
-returns c = after (after (after (after (c .before .before .before .before .before .before .before .before .before .before .before .before .before .before .before .before .before .before .before .words .ensures) (c .before .before .before .before .before .before .before .before .before .before .before .before .before .before .before .plus .ensures)) (c .before .before .before .before .before .before .before .before .before .before .before .number .ensures)) (c .before .before .before .before .before .before .words2 .ensures)) (c .before .before .name .ensures)
+returns c =
+    let c2 = c .before .before in let c6 = c2 .before .before .before .before in let c11 = c6 .before .before .before .before .before in let c15 = c11 .before .before .before .before in let c19 = c15 .before .before .before .before in
+    after (after (after (after (c19 .words .ensures) (c15 .plus .ensures)) (c11 .number .ensures)) (c6 .words2 .ensures)) (c2 .name .ensures)
 
 pub term-spec : {M : Type 1} → statement M
 term-spec =

@@ -16,11 +16,15 @@ truncating-f64-to-u64-requires c κs = (subst T (sym (c .before .if1 .taken)) tt
 
 returns : tie.Need-returns
 unfolding ofBits neg
-returns c = nearest-tells _ _ true true true true (c .before .before .before .truncating-f64-to-u64 .ensures) (c .before .before .before .before .before .if1 .taken) (c .before .before .before .before .if2 .taken) (lt-ltb _ _ (c .before .before .if3 .taken)) (ap (λ (q : Float). eq (div binary64 q (ofBits binary64 0x40c3880000000000)) (c .before .before .before .before .before .before .args .x)) (sym (c .before .nearest-u64-to-f64 .ensures)) ∙ (c .if4 .taken))
+returns c =
+    let c1 = c .before in let c2 = c1 .before in let c3 = c2 .before in let c4 = c3 .before in let c5 = c4 .before in let c6 = c5 .before in
+    nearest-tells _ _ true true true true (c3 .truncating-f64-to-u64 .ensures) (c5 .if1 .taken) (c4 .if2 .taken) (lt-ltb _ _ (c2 .if3 .taken)) (ap (λ (q : Float). eq (div binary64 q (ofBits binary64 0x40c3880000000000)) (c6 .args .x)) (sym (c1 .nearest-u64-to-f64 .ensures)) ∙ (c .if4 .taken))
 
 returns-2 : tie.Need-returns-2
 unfolding ofBits neg
-returns-2 c = nearest-tells _ _ true true true false (c .before .before .before .truncating-f64-to-u64 .ensures) (c .before .before .before .before .before .if1 .taken) (c .before .before .before .before .if2 .taken) (lt-ltb _ _ (c .before .before .if3 .taken)) (ap (λ (q : Float). eq (div binary64 q (ofBits binary64 0x40c3880000000000)) (c .before .before .before .before .before .before .args .x)) (sym (c .before .nearest-u64-to-f64 .ensures)) ∙ (c .if4 .left))
+returns-2 c =
+    let c1 = c .before in let c2 = c1 .before in let c3 = c2 .before in let c4 = c3 .before in let c5 = c4 .before in let c6 = c5 .before in
+    nearest-tells _ _ true true true false (c3 .truncating-f64-to-u64 .ensures) (c5 .if1 .taken) (c4 .if2 .taken) (lt-ltb _ _ (c2 .if3 .taken)) (ap (λ (q : Float). eq (div binary64 q (ofBits binary64 0x40c3880000000000)) (c6 .args .x)) (sym (c1 .nearest-u64-to-f64 .ensures)) ∙ (c .if4 .left))
 
 returns-3 : tie.Need-returns-3
 unfolding ofBits neg

@@ -7,16 +7,24 @@ use Rattle.text.proofs.double.number.Statement.{statement}
 use Rattle.text.proofs.double.number.Tie as tie
 
 returns : tie.Need-returns
-returns c = renamed (number-nan _ (c .before .before .before .before .before .if1 .taken)) (c .before .before .words .ensures)
+returns c =
+    let c2 = c .before .before in let c5 = c2 .before .before .before in
+    renamed (number-nan _ (c5 .if1 .taken)) (c2 .words .ensures)
 
 float-to-bits-digits : tie.Need-float-to-bits-digits
-float-to-bits-digits c = no-nan _ (c .before .before .before .before .before .before .before .before .before .before .if1 .left)
+float-to-bits-digits c =
+    let c10 = c .before .before .before .before .before .before .before .before .before .before in
+    no-nan _ (c10 .if1 .left)
 
 returns-2 : tie.Need-returns-2
-returns-2 c = renamed (shown-decimals _ _ (c .before .before .before .before .before .before .before .before .before .before .before .before .before .k .given .1) ∙ number-shown _ (no-nan _ (c .before .before .before .before .before .before .before .before .before .before .before .before .before .before .before .before .before .if1 .left)) (c .before .before .before .before .before .before .before .before .before .before .before .before .before .before .before .before .magnitude .ensures) (c .before .before .before .before .before .before .before .before .before .before .before .before .before .before .before .nearest .ensures)) (after (after (c .before .before .before .before .before .before .before .before .before .before .sign .ensures) (c .before .before .before .before .before .before .decimal .ensures)) (c .before .before .fraction .ensures))
+returns-2 c =
+    let c2 = c .before .before in let c6 = c2 .before .before .before .before in let c10 = c6 .before .before .before .before in let c13 = c10 .before .before .before in let c15 = c13 .before .before in let c16 = c15 .before in let c17 = c16 .before in
+    renamed (shown-decimals _ _ (c13 .k .given .1) ∙ number-shown _ (no-nan _ (c17 .if1 .left)) (c16 .magnitude .ensures) (c15 .nearest .ensures)) (after (after (c10 .sign .ensures) (c6 .decimal .ensures)) (c2 .fraction .ensures))
 
 returns-3 : tie.Need-returns-3
-returns-3 c = renamed (shown-hex _ (c .before .before .before .before .before .before .before .before .before .enum-told .given .1) ∙ number-shown _ (no-nan _ (c .before .before .before .before .before .before .before .before .before .before .before .before .before .if1 .left)) (c .before .before .before .before .before .before .before .before .before .before .before .before .magnitude .ensures) (c .before .before .before .before .before .before .before .before .before .before .before .nearest .ensures)) (after (c .before .before .before .before .before .before .words2 .ensures) (c .before .before .digits .ensures))
+returns-3 c =
+    let c2 = c .before .before in let c6 = c2 .before .before .before .before in let c9 = c6 .before .before .before in let c11 = c9 .before .before in let c12 = c11 .before in let c13 = c12 .before in
+    renamed (shown-hex _ (c9 .enum-told .given .1) ∙ number-shown _ (no-nan _ (c13 .if1 .left)) (c12 .magnitude .ensures) (c11 .nearest .ensures)) (after (c6 .words2 .ensures) (c2 .digits .ensures))
 
 pub number-spec : {M : Type 1} → statement M
 number-spec =

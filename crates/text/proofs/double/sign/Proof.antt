@@ -13,7 +13,9 @@ picks : {b d : Bool} → b ≡ d → cond b (ascii "-") [] ≡ cond d (ascii "-"
 picks e = ap (λ (b : Bool). cond b (ascii "-") []) e
 
 returns : tie.Need-returns
-returns c = renamed (picks (sym (c .before .before .before .before .if1 .taken) ∙ (c .before .before .before .before .before .minus .ensures))) (c .before .before .put .ensures)
+returns c =
+    let c2 = c .before .before in let c4 = c2 .before .before in let c5 = c4 .before in
+    renamed (picks (sym (c4 .if1 .taken) ∙ (c5 .minus .ensures))) (c2 .put .ensures)
 
 returns-2 : tie.Need-returns-2
 returns-2 c = renamed (picks (sym (c .if1 .left) ∙ (c .before .minus .ensures))) (nothing _ _)

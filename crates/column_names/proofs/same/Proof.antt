@@ -1,0 +1,20 @@
+-- `column_names::same` meets its contract.
+use borrow.Author.Tests.{eq-eqb, ne-eqb}
+use mathlib.Core.Path.{sym}
+use native.Mathlib.Omega.{arith}
+use borrow.Author.Needs.{needs}
+use Rattle.column_names.proofs.same.Statement.{statement}
+use Rattle.column_names.proofs.same.Tie as tie
+
+returns : tie.Need-returns
+returns c = (simp (eq-eqb _ _ (c .if1 .taken)), omega arith)
+
+returns-2 : tie.Need-returns-2
+returns-2 c = (simp (ne-eqb _ _ (c .if1 .left)), omega arith)
+
+pub same-spec : {M : Type 1} → statement M
+same-spec =
+    tie.close
+    (tie.spec
+    returns
+    returns-2)
