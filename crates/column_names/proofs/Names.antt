@@ -1,15 +1,14 @@
 -- What the tests in the names of columns and owners tell.
 use Prim.Native.Nat.{ℕ, zero, suc, _+_, _-_, _<_, _≤_}
 use mathlib.Core.Path.{_≡_, refl, sym, ap, _∙_}
-use mathlib.Core.Bool.{Bool, true, false, cond}
+use mathlib.Core.Bool.{cond}
 use mathlib.Core.List.{List, [], _∷_, _++_}
-use lib.Dec.{ltb, eqb}
+use lib.Dec.{eqb}
 use lib.ListN.{length, getD}
 use native.Mathlib.Nat.{not-suc-le-zero, le-of-suc-le-suc}
 use native.Mathlib.Omega.{arith}
 use native.Mathlib.Numerals.{add-one}
 use borrow.Author.Tests.{lt-ltb, le-ltb, eq-eqb, ne-eqb}
-use Rattle.model.specs.Answers.{Told}
 use Rattle.model.specs.OwnerAnswers.{toldOwner, ownerOfRow, ownerOfColumn}
 use Rattle.model.specs.declared.OwnerAnswer.{OwnerAnswer}
 use Rattle.model.specs.declared.OwnerAnswer.the-variants.{ObjectiveNumber}

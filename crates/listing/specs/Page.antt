@@ -8,7 +8,7 @@ use Rattle.model.specs.declared.Answer.the-variants.{Refusal, Counts}
 use Rattle.model.specs.declared.Objective.{Objective}
 use Rattle.text.specs.Text.{ascii}
 use Rattle.text.specs.Digits.{decimal}
-use Rattle.column_names.specs.Columns.{Layout, layout}
+use Rattle.column_names.specs.Columns.{layout}
 use Rattle.listing.specs.Rows.{Matrix, matrix, cone, costLine}
 use Rattle.listing.specs.Pattern.{picture}
 use Rattle.refusal_words.specs.Refusals.{refused}

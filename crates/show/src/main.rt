@@ -59,7 +59,7 @@ fn print(i: usize, title: &[u8]) {
 fn main() {
     io::write_all(
         1,
-        b"Each row reads: entries + s = right side, where s is the row's slack. A zero cone holds s at 0, a nonnegative cone at 0 or above;\nin a second-order cone the first s is at least the length of the others.\n",
+        b"Each row reads: entries + s = right side, where s is the row's slack. A zero cone holds s at 0, a nonnegative cone at 0 or above;\nin a second-order cone the first s is at least the length of the others. What stands after 0x are the 16 hex digits of a double.\nIn a pattern each line is a row, and + and - are entries above and below 0.\n",
     );
     print(
         0,

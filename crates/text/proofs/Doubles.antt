@@ -3,7 +3,7 @@ use Prim.Native.Nat.{ℕ, _^_, _/_, _%_}
 use mathlib.Core.Path.{_≡_, refl, sym, ap, subst, _∙_}
 use native.Mathlib.Omega.{arith}
 use mathlib.Core.Bool.{Bool, true, false, cond, not, _&&_}
-use mathlib.Core.List.{List, [], _++_}
+use mathlib.Core.List.{[], _++_}
 use lib.Dec.{T, ltb, eqb}
 use lib.IntN.{pos}
 use lib.Ieee.{Float, nan, inf, fin, binary64, isNan, lt, eq, ne, toUnsigned, toBits}

@@ -1,8 +1,7 @@
 // A double as text: in decimals if it is the nearest to a whole multiple of 1/10,000, and else its 16 hex digits.
 ghost use mathlib.Core.Path.{_≡_};
 ghost use Rattle.text.specs.Text.{says};
-ghost use Rattle.text.specs.Number;
-ghost use Rattle.text.specs.Number.{minus as Number·minus, magnitude as Number·magnitude, nearest as Number·nearest, fraction as Number·fraction, sign as Number·sign, shown as Number·shown, number as Number·number};
+ghost use Rattle.text.specs.Number.{minus as Number·minus, magnitude as Number·magnitude, nearest as Number·nearest, fraction as Number·fraction, sign as Number·sign, number as Number·number};
 use crate::decimal;
 use crate::digits;
 use crate::put;

@@ -8,7 +8,6 @@ ghost use mathlib.Core.List.{[], _∷_};
 ghost use mathlib.Core.Path.{_≡_};
 ghost use Prim.Native.Nat.{_≤_, _<_, _+_};
 ghost use Rattle.text.specs.Text.{says};
-ghost use Rattle.text.specs.Digits;
 ghost use Rattle.text.specs.Digits.{digit as Digits·digit, digits as Digits·digits, places as Digits·places, decimal as Digits·decimal};
 
 pub fn put(out: &mut [u8], at: usize, byte: u8) -> usize

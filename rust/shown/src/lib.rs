@@ -17,7 +17,9 @@ pub mod sentences;
 pub const HEAD: &str = "\
 Each row reads: entries + s = right side, where s is the row's slack. \
 A zero cone holds s at 0, a nonnegative cone at 0 or above;
-in a second-order cone the first s is at least the length of the others.
+in a second-order cone the first s is at least the length of the others. \
+What stands after 0x are the 16 hex digits of a double.
+In a pattern each line is a row, and + and - are entries above and below 0.
 ";
 
 /// Everything that `show` prints.

@@ -1,5 +1,5 @@
 -- `column_names::before` meets its contract: the first j columns are counted.
-use Prim.Native.Nat.{ℕ, _≤_, _-_}
+use Prim.Native.Nat.{_≤_, _-_}
 use Rattle.column_names.proofs.Names.{before-more}
 use Rattle.column_names.specs.Columns.{layout, before}
 use denote.Ref.{now}

@@ -1,8 +1,6 @@
 -- `column_names::same` meets its contract.
 use borrow.Author.Tests.{eq-eqb, ne-eqb}
-use mathlib.Core.Path.{sym}
 use native.Mathlib.Omega.{arith}
-use borrow.Author.Needs.{needs}
 use Rattle.column_names.proofs.same.Statement.{statement}
 use Rattle.column_names.proofs.same.Tie as tie
 

@@ -1,5 +1,4 @@
 -- `show::page_at` meets its contract.
-use Rattle.model.specs.Answers.{buffers}
 use Rattle.show.proofs.Pages.{shown, counts}
 use Rattle.show.specs.Shown.{lentHere}
 use borrow.Author.Needs.{needs}

@@ -1,5 +1,5 @@
 -- `listing::cones::cones` meets its contract: j cones are written, and `first` is the first row of the next.
-use Prim.Native.Nat.{ℕ, _≤_, _-_}
+use Prim.Native.Nat.{_≤_, _-_}
 use Rattle.column_names.specs.Columns.{layout}
 use Rattle.listing.proofs.Laws.{turn, no-turn, all-turns, from-zero}
 use Rattle.listing.proofs.Told.{next-first, cone-told}

@@ -3,7 +3,7 @@ use Prim.Native.Nat.{_≤_, _-_}
 use Rattle.listing.proofs.Told.{mark-here, mark-later, mark-none}
 use Rattle.listing.specs.Pattern.{markFrom}
 use Rattle.listing.specs.Rows.{matrix}
-use mathlib.Core.Path.{_≡_, refl, sym, ap, _∙_}
+use mathlib.Core.Path.{_≡_, sym, ap, _∙_}
 use native.Mathlib.Omega.{arith}
 use borrow.Author.Needs.{needs}
 use Rattle.listing.proofs.pattern.mark.Statement.{statement}

@@ -1,7 +1,7 @@
 -- `listing::pattern::picture` meets its contract.
 use Rattle.listing.specs.Pattern.{picture}
-use Rattle.text.proofs.Laws.{after, renamed}
-use mathlib.Core.Path.{ap, _∙_}
+use Rattle.text.proofs.Laws.{after}
+use mathlib.Core.Path.{_∙_}
 use borrow.Author.Needs.{needs}
 use Rattle.listing.proofs.pattern.picture.Statement.{statement}
 use Rattle.listing.proofs.pattern.picture.Tie as tie

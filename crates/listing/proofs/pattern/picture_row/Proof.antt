@@ -1,7 +1,7 @@
 -- `listing::pattern::picture_row` meets its contract.
 use Rattle.listing.specs.Pattern.{pictureRow}
-use Rattle.text.proofs.Laws.{after, renamed}
-use mathlib.Core.Path.{ap, _∙_}
+use Rattle.text.proofs.Laws.{after}
+use mathlib.Core.Path.{_∙_}
 use borrow.Author.Needs.{needs}
 use Rattle.listing.proofs.pattern.picture_row.Statement.{statement}
 use Rattle.listing.proofs.pattern.picture_row.Tie as tie

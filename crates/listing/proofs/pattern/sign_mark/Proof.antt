@@ -2,7 +2,6 @@
 use Rattle.listing.proofs.Told.{marks-tell}
 use mathlib.Core.Bool.{true, false}
 use mathlib.Core.Path.{refl}
-use borrow.Author.Needs.{needs}
 use Rattle.listing.proofs.pattern.sign_mark.Statement.{statement}
 use Rattle.listing.proofs.pattern.sign_mark.Tie as tie
 

@@ -1,7 +1,7 @@
 -- `listing::rows::cost_line` meets its contract.
 use Rattle.listing.specs.Rows.{costLine}
-use Rattle.text.proofs.Laws.{after, renamed}
-use mathlib.Core.Path.{ap, _∙_}
+use Rattle.text.proofs.Laws.{after}
+use mathlib.Core.Path.{_∙_}
 use borrow.Author.Needs.{needs}
 use Rattle.listing.proofs.rows.cost_line.Statement.{statement}
 use Rattle.listing.proofs.rows.cost_line.Tie as tie

@@ -1,14 +1,12 @@
 -- `listing::rows::terms` meets its contract: so many turns are written.
-use Prim.Native.Nat.{ℕ, _≤_, _-_}
+use Prim.Native.Nat.{_≤_, _-_}
 use Rattle.column_names.specs.Columns.{layout}
 use Rattle.listing.proofs.Laws.{turn, no-turn, all-turns, from-zero}
 use Rattle.listing.specs.Rows.{matrix, entry}
 use Rattle.model.specs.Lists.{over}
-use Rattle.text.proofs.Laws.{renamed}
 use Rattle.text.specs.Text.{Says}
 use lib.ListN.{length}
-use mathlib.Core.List.{List, [], _∷_}
-use mathlib.Core.Path.{_≡_, _∙_, ap}
+use mathlib.Core.Path.{_≡_, _∙_}
 use native.Mathlib.Omega.{arith}
 use borrow.Author.Needs.{needs}
 use Rattle.listing.proofs.rows.terms.Statement.{statement}

@@ -2,8 +2,7 @@
 use Rattle.text.proofs.Doubles.{nearest-tells}
 use borrow.Author.Tests.{lt-ltb, le-ltb}
 use lib.Dec.{T}
-use lib.Ieee.{ofBits, neg, Float, eq, div, binary64, ofInt}
-use lib.IntN.{pos}
+use lib.Ieee.{ofBits, neg, Float, eq, div, binary64}
 use mathlib.Core.Bool.{true, false}
 use mathlib.Core.Path.{sym, subst, refl, _∙_, ap}
 use borrow.Author.Needs.{needs}

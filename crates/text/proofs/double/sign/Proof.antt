@@ -1,9 +1,8 @@
 -- `text::double::sign` meets its contract.
-use Prim.Native.Nat.{ℕ}
 use Rattle.text.proofs.Laws.{nothing, renamed}
 use Rattle.text.specs.Text.{ascii}
 use mathlib.Core.Bool.{Bool, cond}
-use mathlib.Core.List.{List, []}
+use mathlib.Core.List.{[]}
 use mathlib.Core.Path.{_≡_, ap, sym, _∙_}
 use borrow.Author.Needs.{needs}
 use Rattle.text.proofs.double.sign.Statement.{statement}
