@@ -46,17 +46,18 @@ pub fn letter_at(
     objectives: [Objective; 16],
     count: usize,
     index: &[usize],
-    k: usize,
+    column: Column,
 ) -> u8
-    ensures { λ r. ⌜ r ≡ letterAt (layout stations objectives count (atEntry index)) k ⌝ }
+    ensures { λ r. ⌜ r ≡ letterAt (layout stations objectives count (atEntry index)) (column .at) ⌝ }
 {
+    let k = column.at;
     if k < stations {
         return b'a';
     }
     if k - stations < stations {
         return b'b';
     }
-    let owner = owners::owner_of_column(index, count, Column { at: k });
+    let owner = owners::owner_of_column(index, count, column);
     match owner {
         OwnerAnswer::StandardRows => b'?',
         OwnerAnswer::RootStage => b'x',
@@ -73,20 +74,22 @@ fn same(a: u8, b: u8) -> usize
     if a == b { 1 } else { 0 }
 }
 
-// How many of the columns before k have the letter.
+// How many of the columns before this one have the letter.
 fn before(
     stations: usize,
     objectives: [Objective; 16],
     count: usize,
     index: &[usize],
     letter: u8,
-    k: usize,
+    column: Column,
 ) -> usize
-    ensures { λ r. ⌜ r ≡ Columns·before (layout stations objectives count (atEntry index)) letter k ⌝ }
+    ensures { λ r. ⌜ r ≡ Columns·before (layout stations objectives count (atEntry index)) letter (column .at) ⌝ }
 {
+    let end = column.at;
     let mut n: usize = 0;
-    for j in 0..k {
-        n += same(letter_at(stations, objectives, count, index, j), letter);
+    for k in 0..end {
+        let other = letter_at(stations, objectives, count, index, Column { at: k });
+        n += same(other, letter);
     }
     n
 }
@@ -103,7 +106,7 @@ fn word(out: &mut [u8], at: usize, letter: u8) -> usize
     text::put(out, at, letter)
 }
 
-// The name of column k.
+// The name of a column.
 pub fn name(
     out: &mut [u8],
     at: usize,
@@ -111,12 +114,12 @@ pub fn name(
     objectives: [Objective; 16],
     count: usize,
     index: &[usize],
-    k: usize,
+    column: Column,
 ) -> usize
-    ensures { λ r. ⌜ says (Columns·name (layout stations objectives count (atEntry index)) k) out at r ⌝ }
+    ensures { λ r. ⌜ says (Columns·name (layout stations objectives count (atEntry index)) (column .at)) out at r ⌝ }
 {
-    let letter = letter_at(stations, objectives, count, index, k);
-    let n = before(stations, objectives, count, index, letter, k);
+    let letter = letter_at(stations, objectives, count, index, column);
+    let n = before(stations, objectives, count, index, letter, column);
     let next = word(out, at, letter);
     text::decimal(out, next, n as u64)
 }
@@ -132,7 +135,7 @@ fn kind_name(out: &mut [u8], at: usize, o: Objective) -> usize
     }
 }
 
-// The owner of row r.
+// The owner of a row.
 pub fn row_owner(
     out: &mut [u8],
     at: usize,
@@ -140,11 +143,11 @@ pub fn row_owner(
     objectives: [Objective; 16],
     count: usize,
     index: &[usize],
-    r: usize,
+    row: Row,
 ) -> usize
-    ensures { λ t. ⌜ says (Columns·rowOwner (layout stations objectives count (atEntry index)) r) out at t ⌝ }
+    ensures { λ r. ⌜ says (Columns·rowOwner (layout stations objectives count (atEntry index)) (row .at)) out at r ⌝ }
 {
-    let owner = owners::owner_of_row(index, count, Row { at: r });
+    let owner = owners::owner_of_row(index, count, row);
     match owner {
         OwnerAnswer::StandardRows => words(out, at, b"standard rows"),
         OwnerAnswer::RootStage => words(out, at, b"root stage"),

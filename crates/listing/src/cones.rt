@@ -12,6 +12,7 @@ use crate::rows::number_at;
 use crate::rows::row;
 use column_names::row_owner;
 use model::Objective;
+use model::Row;
 use text::words;
 
 fn kind_at(kinds: &[u8], j: usize) -> u8
@@ -42,9 +43,9 @@ fn cone_head(
     kinds: &[u8],
     dimensions: &[u32],
     j: usize,
-    first: usize,
+    first: Row,
 ) -> usize
-    ensures { λ r. ⌜ says (coneHead (layout stations objectives count (atEntry index)) (atEntry kinds) (atEntry dimensions) j first) out at r ⌝ }
+    ensures { λ r. ⌜ says (coneHead (layout stations objectives count (atEntry index)) (atEntry kinds) (atEntry dimensions) j (first .at)) out at r ⌝ }
 {
     let number = words(out, at, b"cone ");
     let colon = text::decimal(out, number, j as u64);
@@ -58,14 +59,16 @@ fn cone_head(
 }
 
 // Where the rows of a cone end; no row is past the last.
-fn end_row(first: usize, dimension: usize, rows: usize) -> usize
-    requires { ⌜ first ≤ rows ⌝ }
-    ensures { λ r. ⌜ (r ≡ min (first + dimension) rows) × (first ≤ r) × (r ≤ rows) ⌝ }
+fn end_row(first: Row, dimension: usize, rows: usize) -> Row
+    requires { ⌜ first .at ≤ rows ⌝ }
+    ensures { λ r. ⌜ (r .at ≡ min (first .at + dimension) rows) × (first .at ≤ r .at) × (r .at ≤ rows) ⌝ }
 {
-    if rows - first < dimension {
-        return rows;
+    if rows - first.at < dimension {
+        return Row { at: rows };
     }
-    first + dimension
+    Row {
+        at: first.at + dimension,
+    }
 }
 
 // The rows from `first` to before `end`.
@@ -81,14 +84,17 @@ fn cone_rows(
     columns: &[u32],
     values: &[f64],
     right: &[f64],
-    first: usize,
-    end: usize,
+    first: Row,
+    end: Row,
 ) -> usize
-    requires { ⌜ first ≤ end ⌝ }
-    ensures { λ r. ⌜ says (over (Rows·row (layout stations objectives count (atEntry index)) (matrix (atEntry rows) (atEntry columns) (atEntry values)) entries (atEntry right)) first (end - first)) out at r ⌝ }
+    requires { ⌜ first .at ≤ end .at ⌝ }
+    ensures { λ r. ⌜ says (over (Rows·row (layout stations objectives count (atEntry index)) (matrix (atEntry rows) (atEntry columns) (atEntry values)) entries (atEntry right)) (first .at) (end .at - first .at)) out at r ⌝ }
 {
+    let from = first.at;
+    let to = end.at;
     let mut next = at;
-    for r in first..end {
+    for r in from..to {
+        let number = Row { at: r };
         next = row(
             out,
             next,
@@ -101,7 +107,7 @@ fn cone_rows(
             columns,
             values,
             right,
-            r,
+            number,
         );
     }
     next
@@ -128,7 +134,7 @@ pub fn cones(
     ensures { λ r. ⌜ says (over (Rows·cone (layout stations objectives count (atEntry index)) (matrix (atEntry rows) (atEntry columns) (atEntry values)) entries (atEntry right) height (atEntry kinds) (atEntry dimensions)) 0 number) out at r ⌝ }
 {
     let mut next = at;
-    let mut first: usize = 0;
+    let mut first = Row { at: 0 };
     for j in 0..number {
         let end = end_row(first, number_at(dimensions, j), height);
         let under = cone_head(

@@ -11,10 +11,13 @@ ghost use Rattle.column_names.specs.Columns.{layout, letterAt};
 ghost use Rattle.listing.specs.Rows.{matrix};
 ghost use Rattle.listing.specs.Pattern.{signMark, markFrom, pictureRow};
 ghost use Rattle.listing.specs.Pattern.{picture as Pattern·picture};
+use crate::rows::column_at;
 use crate::rows::float_at;
-use crate::rows::number_at;
+use crate::rows::row_at;
 use column_names::letter_at;
+use model::Column;
 use model::Objective;
+use model::Row;
 use text::words;
 
 fn sign_mark(x: f64) -> u8
@@ -29,19 +32,28 @@ fn sign_mark(x: f64) -> u8
     b'0'
 }
 
-// Whether entry i stands at row r and column k.
-fn stands_at(rows: &[u32], columns: &[u32], i: usize, r: usize, k: usize) -> bool
-    ensures { λ t. ⌜ t ≡ (eqb (getD (atEntry rows) i 0) r && eqb (getD (atEntry columns) i 0) k) ⌝ }
+// Whether entry i stands at a row and a column.
+fn stands_at(rows: &[u32], columns: &[u32], i: usize, row: Row, column: Column) -> bool
+    ensures { λ r. ⌜ r ≡ (eqb (getD (atEntry rows) i 0) (row .at) && eqb (getD (atEntry columns) i 0) (column .at)) ⌝ }
 {
-    (number_at(rows, i) == r) & (number_at(columns, i) == k)
+    let own = row_at(rows, i);
+    let other = column_at(columns, i);
+    (own.at == row.at) & (other.at == column.at)
 }
 
-// The mark of row r and column k: that of the first entry there.
-fn mark(rows: &[u32], columns: &[u32], values: &[f64], entries: usize, r: usize, k: usize) -> u8
-    ensures { λ t. ⌜ t ≡ markFrom (matrix (atEntry rows) (atEntry columns) (atEntry values)) r k 0 entries ⌝ }
+// The mark of a row and a column: that of the first entry there.
+fn mark(
+    rows: &[u32],
+    columns: &[u32],
+    values: &[f64],
+    entries: usize,
+    row: Row,
+    column: Column,
+) -> u8
+    ensures { λ r. ⌜ r ≡ markFrom (matrix (atEntry rows) (atEntry columns) (atEntry values)) (row .at) (column .at) 0 entries ⌝ }
 {
     for i in 0..entries {
-        if stands_at(rows, columns, i, r, k) {
+        if stands_at(rows, columns, i, row, column) {
             return sign_mark(float_at(values, i));
         }
     }
@@ -56,13 +68,15 @@ fn marks(
     values: &[f64],
     entries: usize,
     width: usize,
-    r: usize,
+    row: Row,
 ) -> usize
-    ensures { λ t. ⌜ says (over (λ k. markFrom (matrix (atEntry rows) (atEntry columns) (atEntry values)) r k 0 entries ∷ []) 0 width) out at t ⌝ }
+    ensures { λ r. ⌜ says (over (λ k. markFrom (matrix (atEntry rows) (atEntry columns) (atEntry values)) (row .at) k 0 entries ∷ []) 0 width) out at r ⌝ }
 {
     let mut next = at;
     for k in 0..width {
-        next = text::put(out, next, mark(rows, columns, values, entries, r, k));
+        let column = Column { at: k };
+        let mark = mark(rows, columns, values, entries, row, column);
+        next = text::put(out, next, mark);
     }
     next
 }
@@ -75,14 +89,14 @@ fn picture_row(
     values: &[f64],
     entries: usize,
     width: usize,
-    r: usize,
+    row: Row,
 ) -> usize
-    ensures { λ t. ⌜ says (pictureRow (matrix (atEntry rows) (atEntry columns) (atEntry values)) entries width r) out at t ⌝ }
+    ensures { λ r. ⌜ says (pictureRow (matrix (atEntry rows) (atEntry columns) (atEntry values)) entries width (row .at)) out at r ⌝ }
 {
     let first = words(out, at, b"  ");
-    let behind = marks(out, first, rows, columns, values, entries, width, r);
+    let behind = marks(out, first, rows, columns, values, entries, width, row);
     let number = words(out, behind, b"  ");
-    let end = text::decimal(out, number, r as u64);
+    let end = text::decimal(out, number, row.at as u64);
     words(out, end, b"\n")
 }
 
@@ -99,7 +113,8 @@ fn letters(
 {
     let mut next = at;
     for k in 0..width {
-        next = text::put(out, next, letter_at(stations, objectives, count, index, k));
+        let letter = letter_at(stations, objectives, count, index, Column { at: k });
+        next = text::put(out, next, letter);
     }
     next
 }
@@ -118,7 +133,8 @@ fn picture_rows(
 {
     let mut next = at;
     for r in 0..height {
-        next = picture_row(out, next, rows, columns, values, entries, width, r);
+        let row = Row { at: r };
+        next = picture_row(out, next, rows, columns, values, entries, width, row);
     }
     next
 }

@@ -9,7 +9,9 @@ ghost use Rattle.column_names.specs.Columns.{layout};
 ghost use Rattle.listing.specs.Rows.{matrix, costLine};
 ghost use Rattle.listing.specs.Rows.{plus as Rows·plus, term as Rows·term, entry as Rows·entry, row as Rows·row, charge as Rows·charge};
 use column_names::name;
+use model::Column;
 use model::Objective;
+use model::Row;
 use text::words;
 
 fn wide(x: u32) -> usize
@@ -22,6 +24,22 @@ pub fn number_at(xs: &[u32], i: usize) -> usize
     ensures { λ r. ⌜ r ≡ getD (atEntry xs) i 0 ⌝ }
 {
     if i < xs.len() { wide(xs[i]) } else { 0 }
+}
+
+pub fn row_at(rows: &[u32], i: usize) -> Row
+    ensures { λ r. ⌜ r .at ≡ getD (atEntry rows) i 0 ⌝ }
+{
+    Row {
+        at: number_at(rows, i),
+    }
+}
+
+pub fn column_at(columns: &[u32], i: usize) -> Column
+    ensures { λ r. ⌜ r .at ≡ getD (atEntry columns) i 0 ⌝ }
+{
+    Column {
+        at: number_at(columns, i),
+    }
 }
 
 pub fn float_at(xs: &[f64], i: usize) -> f64
@@ -40,7 +58,7 @@ fn plus(out: &mut [u8], at: usize, x: f64) -> usize
     }
 }
 
-// x times column k.
+// x times a column.
 fn term(
     out: &mut [u8],
     at: usize,
@@ -49,18 +67,18 @@ fn term(
     count: usize,
     index: &[usize],
     x: f64,
-    k: usize,
+    column: Column,
 ) -> usize
-    ensures { λ r. ⌜ says (Rows·term (layout stations objectives count (atEntry index)) x k) out at r ⌝ }
+    ensures { λ r. ⌜ says (Rows·term (layout stations objectives count (atEntry index)) x (column .at)) out at r ⌝ }
 {
     let sign = words(out, at, b" ");
     let number = plus(out, sign, x);
     let dot = text::number(out, number, x);
-    let column = words(out, dot, b"\xc2\xb7");
-    name(out, column, stations, objectives, count, index, k)
+    let named = words(out, dot, b"\xc2\xb7");
+    name(out, named, stations, objectives, count, index, column)
 }
 
-// Entry i, if it stands in row r.
+// Entry i, if it stands in the row.
 fn entry(
     out: &mut [u8],
     at: usize,
@@ -71,20 +89,21 @@ fn entry(
     rows: &[u32],
     columns: &[u32],
     values: &[f64],
-    r: usize,
+    row: Row,
     i: usize,
 ) -> usize
-    ensures { λ t. ⌜ says (Rows·entry (layout stations objectives count (atEntry index)) (matrix (atEntry rows) (atEntry columns) (atEntry values)) r i) out at t ⌝ }
+    ensures { λ r. ⌜ says (Rows·entry (layout stations objectives count (atEntry index)) (matrix (atEntry rows) (atEntry columns) (atEntry values)) (row .at) i) out at r ⌝ }
 {
-    if number_at(rows, i) == r {
+    let own = row_at(rows, i);
+    if own.at == row.at {
         let x = float_at(values, i);
-        let k = number_at(columns, i);
-        return term(out, at, stations, objectives, count, index, x, k);
+        let column = column_at(columns, i);
+        return term(out, at, stations, objectives, count, index, x, column);
     }
     at
 }
 
-// The terms of row r.
+// The terms of a row.
 fn terms(
     out: &mut [u8],
     at: usize,
@@ -96,9 +115,9 @@ fn terms(
     rows: &[u32],
     columns: &[u32],
     values: &[f64],
-    r: usize,
+    row: Row,
 ) -> usize
-    ensures { λ t. ⌜ says (over (Rows·entry (layout stations objectives count (atEntry index)) (matrix (atEntry rows) (atEntry columns) (atEntry values)) r) 0 entries) out at t ⌝ }
+    ensures { λ r. ⌜ says (over (Rows·entry (layout stations objectives count (atEntry index)) (matrix (atEntry rows) (atEntry columns) (atEntry values)) (row .at)) 0 entries) out at r ⌝ }
 {
     let mut next = at;
     for i in 0..entries {
@@ -112,7 +131,7 @@ fn terms(
             rows,
             columns,
             values,
-            r,
+            row,
             i,
         );
     }
@@ -131,12 +150,12 @@ pub fn row(
     columns: &[u32],
     values: &[f64],
     right: &[f64],
-    r: usize,
+    row: Row,
 ) -> usize
-    ensures { λ t. ⌜ says (Rows·row (layout stations objectives count (atEntry index)) (matrix (atEntry rows) (atEntry columns) (atEntry values)) entries (atEntry right) r) out at t ⌝ }
+    ensures { λ r. ⌜ says (Rows·row (layout stations objectives count (atEntry index)) (matrix (atEntry rows) (atEntry columns) (atEntry values)) entries (atEntry right) (row .at)) out at r ⌝ }
 {
     let number = words(out, at, b"  ");
-    let colon = text::decimal(out, number, r as u64);
+    let colon = text::decimal(out, number, row.at as u64);
     let first = words(out, colon, b":");
     let slack = terms(
         out,
@@ -149,14 +168,14 @@ pub fn row(
         rows,
         columns,
         values,
-        r,
+        row,
     );
     let side = words(out, slack, b" + s = ");
-    let end = text::number(out, side, float_at(right, r));
+    let end = text::number(out, side, float_at(right, row.at));
     words(out, end, b"\n")
 }
 
-// The term of column k in the cost, if it is not zero.
+// The term of a column in the cost, if it is not zero.
 fn charge(
     out: &mut [u8],
     at: usize,
@@ -165,15 +184,15 @@ fn charge(
     count: usize,
     index: &[usize],
     cost: &[f64],
-    k: usize,
+    column: Column,
 ) -> usize
-    ensures { λ r. ⌜ says (Rows·charge (layout stations objectives count (atEntry index)) (atEntry cost) k) out at r ⌝ }
+    ensures { λ r. ⌜ says (Rows·charge (layout stations objectives count (atEntry index)) (atEntry cost) (column .at)) out at r ⌝ }
 {
-    let x = float_at(cost, k);
+    let x = float_at(cost, column.at);
     if x == 0.0 {
         return at;
     }
-    term(out, at, stations, objectives, count, index, x, k)
+    term(out, at, stations, objectives, count, index, x, column)
 }
 
 fn charges(
@@ -190,7 +209,8 @@ fn charges(
 {
     let mut next = at;
     for k in 0..width {
-        next = charge(out, next, stations, objectives, count, index, cost, k);
+        let column = Column { at: k };
+        next = charge(out, next, stations, objectives, count, index, cost, column);
     }
     next
 }

@@ -16,7 +16,7 @@ use Rattle.listing.proofs.cones.cones.Statement.{statement}
 use Rattle.listing.proofs.cones.cones.Tie as tie
 
 abbrev Inv-loop : tie.InvT-loop
-Inv-loop out₀ at stations objectives count index entries rows columns values height right number kinds dimensions next₀ first₀ j₀ out next first j = (0 ≤ j) × (j ≤ number) × (length out ≡ length out₀) × Says (over (cone (layout stations objectives count index) (matrix rows columns values) entries right height kinds dimensions) 0 (j - 0)) out₀ at out next × (first ≡ firstRow height dimensions j) × (first ≤ height)
+Inv-loop out₀ at stations objectives count index entries rows columns values height right number kinds dimensions next₀ first₀ j₀ out next first j = (0 ≤ j) × (j ≤ number) × (length out ≡ length out₀) × Says (over (cone (layout stations objectives count index) (matrix rows columns values) entries right height kinds dimensions) 0 (j - 0)) out₀ at out next × (first .at ≡ firstRow height dimensions j) × (first .at ≤ height)
 
 abbrev μ-loop : tie.MeasureT-loop
 μ-loop out₀ at stations objectives count index entries rows columns values height right number kinds dimensions next₀ first₀ j₀ out next first j = number - j

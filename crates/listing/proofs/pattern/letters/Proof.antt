@@ -28,10 +28,10 @@ loop-holds c =
 
 loop-again : tie.Need-loop-again Inv-loop μ-loop
 loop-again c =
-    let c2 = c .before .before in let c3 = c2 .before in let c6 = c3 .before .before .before in let c9 = c6 .before .before .before in
+    let c2 = c .before .before in let c4 = c2 .before .before in let c6 = c4 .before .before in let c9 = c6 .before .before .before in
     let y = layout (c9 .args .stations) (c9 .args .objectives) (c9 .args .count) (c9 .args .index .now) in
     let f : ℕ → List ℕ = λ (k : ℕ). letterAt y k ∷ [] in
-    (omega arith, omega arith, (c2 .put .kept .0) ∙ (c6 .loop .inv .2), turn f 0 (c6 .loop .k) (c6 .loop .inv .0) (c6 .loop .inv .3) (renamed (ap (λ (b : ℕ). b ∷ []) (c3 .letter-at .ensures)) (c2 .put .ensures)))
+    (omega arith, omega arith, (c2 .put .kept .0) ∙ (c6 .loop .inv .2), turn f 0 (c6 .loop .k) (c6 .loop .inv .0) (c6 .loop .inv .3) (renamed (ap (λ (b : ℕ). b ∷ []) (c4 .letter-at .ensures)) (c2 .put .ensures)))
 
 same-length : tie.Need-same-length Inv-loop μ-loop
 same-length c = (c .before .loop .inv .2)

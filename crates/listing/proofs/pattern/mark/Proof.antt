@@ -10,16 +10,16 @@ use Rattle.listing.proofs.pattern.mark.Statement.{statement}
 use Rattle.listing.proofs.pattern.mark.Tie as tie
 
 abbrev Inv-loop : tie.InvT-loop
-Inv-loop rows columns values entries r k i₀ i = (i ≤ entries) × (markFrom (matrix rows columns values) r k i (entries - i) ≡ markFrom (matrix rows columns values) r k 0 entries)
+Inv-loop rows columns values entries row column i₀ i = (i ≤ entries) × (markFrom (matrix rows columns values) (row .at) (column .at) i (entries - i) ≡ markFrom (matrix rows columns values) (row .at) (column .at) 0 entries)
 
 abbrev μ-loop : tie.MeasureT-loop
-μ-loop rows columns values entries r k i₀ i = entries - i
+μ-loop rows columns values entries row column i₀ i = entries - i
 
 loop-holds : tie.Need-loop-holds Inv-loop μ-loop
 loop-holds c =
     let c3 = c .before .before .before in
     let a = matrix (c3 .args .rows .now) (c3 .args .columns .now) (c3 .args .values .now) in
-    (omega arith, let e : (c3 .args .entries) - 0 ≡ (c3 .args .entries) = omega arith in ap (markFrom a (c3 .args .r) (c3 .args .k) 0) e)
+    (omega arith, let e : (c3 .args .entries) - 0 ≡ (c3 .args .entries) = omega arith in ap (markFrom a ((c3 .args .row) .at) ((c3 .args .column) .at) 0) e)
 
 returns : tie.Need-returns Inv-loop μ-loop
 returns c =

@@ -11,7 +11,9 @@ both : (r k : ℕ) {m m′ n n′ : ℕ} → m ≡ m′ → n ≡ n′ → (eqb 
 both r k {m} {m′} {n} {n′} e f = ap (λ (x : ℕ). eqb x r && eqb n k) e ∙ ap (λ (x : ℕ). eqb m′ r && eqb x k) f
 
 returns : tie.Need-returns
-returns c = both _ _ (c .before .number-at .ensures) (c .number-at2 .ensures)
+returns c =
+    let c4 = c .before .before .before .before in let c5 = c4 .before in
+    both _ _ (c5 .row-at .ensures) (c4 .column-at .ensures)
 
 pub stands-at-spec : {M : Type 1} → statement M
 stands-at-spec =
