@@ -23,7 +23,7 @@ fn words(number: u64) -> (&'static str, bool) {
 }
 
 const UNKNOWN: (&str, bool) = (
-    "this number is not one of the assembly's; nobody is to look anywhere",
+    "this number is not one of the assembly's; whoever calls the library is to look at document 01",
     false,
 );
 

@@ -280,3 +280,33 @@ fn sentences_as_the_document_has_them() {
         assert!(document.contains(&format!("\n    {line}\n")), "{line}");
     }
 }
+
+/// The proved table of refusals has the document's words, not only those that `show` prints.
+#[test]
+fn the_definition_has_the_documents_words() {
+    let document = file("docs/LISTING.md");
+    let definition = file("crates/refusal_words/specs/Refusals.antt");
+    let mut met = 0;
+    for line in document.lines() {
+        let cells: Vec<&str> = line.split('|').map(str::trim).collect();
+        let [_, number, words, _] = cells[..] else {
+            continue;
+        };
+        let Ok(number) = number.parse::<u64>() else {
+            continue;
+        };
+        let (complaint, rest) = words.split_once("; whoever ").expect("who is to look");
+        let (_, place) = rest.split_once(" is to look at ").expect("where to look");
+        let place = match place.strip_suffix('P') {
+            Some(begins) => format!("({number} placed \"{begins}\")"),
+            None => format!("({number} plain \"{place}\")"),
+        };
+        assert!(
+            definition.contains(&format!("({number} plain \"{complaint}\")")),
+            "{number}"
+        );
+        assert!(definition.contains(&place), "{number}: {place}");
+        met += 1;
+    }
+    assert_eq!(met, 21);
+}
