@@ -10,13 +10,6 @@ use model::Ends;
 use model::Job;
 use model::Objective;
 
-// How many problems there are.
-pub fn count() -> usize
-    ensures { λ r. ⌜ r ≡ 3 ⌝ }
-{
-    3
-}
-
 // How many stations problem number i has.
 pub fn stations_at(i: usize) -> usize
     ensures { λ r. ⌜ r ≡ stationsAt i ⌝ }
