@@ -1,10 +1,10 @@
 -- A page under its problem's own numbers, and the room for it.
 use Prim.Native.Nat.{ℕ}
-use mathlib.Core.Path.{_≡_, sym, ap, _∙_}
+use mathlib.Core.Path.{_≡_, ap, _∙_}
 use mathlib.Core.List.{List}
-use lib.Seq.{length-take-le}
 use native.Mathlib.Omega.{arith}
 use Rattle.io.specs.Counts.{Counts}
+use Rattle.io.proofs.Counting as Counting
 use Rattle.model.specs.Answers.{Buffers, answered, assembly}
 use Rattle.model.specs.declared.Answer.{Answer}
 use Rattle.model.specs.declared.Objective.{Objective}
@@ -26,4 +26,4 @@ module _ (i : ℕ) (a : Answer) (b : Buffers) {s c : ℕ} {o : List Objective}
   shown e says = record { answer = a; after = b; assembled = e; says = renamed own says }
 
 pub counts : {t old new : List ℕ} {next : ℕ} → Says t old 0 new next → Counts next new
-counts {t} {old} {new} {next} x = let h = next-within x (omega arith) in (h, sym (length-take-le next new h))
+counts {t} {old} {new} {next} x = Counting.counts next new (next-within x (omega arith))
