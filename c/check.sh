@@ -1,6 +1,7 @@
 #!/bin/sh
 # Compiles the C example against the header and the static library, and runs it
-# under AddressSanitizer and UndefinedBehaviorSanitizer.
+# under AddressSanitizer and UndefinedBehaviorSanitizer. Then measures how much
+# stack a call takes, without them, and with every symbol bound at the start.
 #
 # COPP3_LIB_DIR is the folder of libcopp3_c.a, by default target/staticlib.
 set -eu
@@ -15,3 +16,8 @@ mkdir -p "$out"
 "$out/example" >"$out/example.txt"
 head -n 1 "$out/example.txt"
 echo "C example: passed"
+
+"${CC:-cc}" -std=c11 -Wall -Wextra -Werror -O1 -pthread -Wl,-z,now \
+    -I "$here/../include" "$here/stack.c" "$lib/libcopp3_c.a" -lm -o "$out/stack"
+"$out/stack"
+echo "stack of a call: passed"

@@ -242,6 +242,10 @@ typedef struct {
     uint64_t owner;
 } copp3_owner;
 
+/* Bytes of stack that a call of any of these functions needs at most, its
+ * arguments and the caller's copies of them included; the same for every n. */
+#define COPP3_STACK_BYTES 10240
+
 /* Tells the four counts, or every refusal tested before 19. */
 copp3_answer copp3_size(
     copp3_job job, copp3_objectives objectives,

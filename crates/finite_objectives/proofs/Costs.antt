@@ -7,11 +7,11 @@ use native.Mathlib.Numerals.{add-one}
 use native.Mathlib.Omega.{arith}
 use lib.Ieee.{Float, nan, neg, ofBits}
 use lib.ListN.{length, getD, take}
-use Rattle.model.specs.Numbers.{finite, _⊗_, +0}
+use Rattle.model.specs.Numbers.{at, finite, _⊗_, +0}
 use Rattle.model.specs.Lists.{list}
 use Rattle.model.specs.Problem.{Problem, Path, L, skip}
 use Rattle.model.specs.Program.{positiveRow}
-use Rattle.model.specs.Objectives.{timeCone, timeBlock, timeWeight, linearBlock, objectiveBlock}
+use Rattle.model.specs.Objectives.{timeCone, timeBlock, timeWeights, linearBlock, objectiveBlock}
 use Rattle.model.specs.Assembled.{width, objectiveBlocks, allFinite}
 use Rattle.model.specs.declared.Objective.{Objective}
 use Rattle.model.specs.declared.Objective.the-variants.{Time, Linear}
@@ -23,11 +23,11 @@ time-cone : (q : Path) (c j : ℕ) → finiteBands (timeCone q c j .bands) ≡ t
 unfolding timeCone ofBits neg
 time-cone q c j = refl
 
-pub time-scanned : (q : Path) (w : Float) (c : ℕ) {r : Bool} → Each r (λ j. finite (w ⊗ timeWeight q (skip q + j))) 0 (L q) → r ≡ finiteBlock (timeBlock q w c)
+pub time-scanned : (q : Path) (w : Float) (c : ℕ) {r : Bool} → Each r (λ j. finite (w ⊗ at (timeWeights q) (skip q + j))) 0 (L q) → r ≡ finiteBlock (timeBlock q w c)
 unfolding timeBlock
 time-scanned q w c p =
-    p .says ∙ sym (list-finite (λ j. w ⊗ timeWeight q (skip q + j)) 0 (L q))
-    ∙ ap (λ (x : Bool). x && allFinite (list (λ j. w ⊗ timeWeight q (skip q + j)) 0 (L q)))
+    p .says ∙ sym (list-finite (λ j. w ⊗ at (timeWeights q) (skip q + j)) 0 (L q))
+    ∙ ap (λ (x : Bool). x && allFinite (list (λ j. w ⊗ at (timeWeights q) (skip q + j)) 0 (L q)))
     (sym (constants (list (λ j. positiveRow (c + j)) 0 (L q)) (timeCone q c) (L q) (positives (λ j. c + j) 0 (L q)) (time-cone q c)))
 
 -- ---- the cost of the a and b columns

@@ -2,7 +2,7 @@
 use mathlib.Core.Path.{_≡_, refl, sym, ap, subst, _∙_}
 use mathlib.Core.Bool.{cond}
 use mathlib.Core.List.{List, [], _∷_}
-use Prim.Native.Nat.{ℕ, zero, suc, _+_, _-_, _≤_, _<_}
+use Prim.Native.Nat.{ℕ, _+_, _-_, _<_}
 use native.Mathlib.Nat.{zero-add}
 use native.Mathlib.Decide.{ℕ-discrete}
 use native.Mathlib.Omega.{arith}
@@ -20,12 +20,6 @@ use Rattle.model.proofs.Feasible.{getD-list}
 use Rattle.buffers.proofs.Parts.{cancel}
 use Rattle.linear.specs.Charges.{chargedAt, Charged, linearCharges}
 use Rattle.model.specs.declared.Ends.{Ends}
-
-module _ {A : Type 0} where
-  pub list-cong : (f g : ℕ → A) (k c : ℕ) → ((i : ℕ) → k ≤ i → i < k + c → f i ≡ g i) → list f k c ≡ list g k c
-  list-cong f g k zero h = refl
-  list-cong f g k (suc c) h =
-      ap (λ (x : A). x ∷ list f (suc k) c) (h k (omega arith) (omega arith)) ∙ ap (λ (l : List A). g k ∷ l) (list-cong f g (suc k) c (λ i a b. h i (omega arith) (omega arith)))
 
 at-set : (q : List Float) (j c : ℕ) (v : Float) → c < length q → Dec (j ≡ c) → at (set q j (at q j ⊕ v)) c ≡ cond (eqb j c) (at q c ⊕ v) (at q c)
 at-set q j c v h (yes p) =

@@ -19,7 +19,8 @@ use Rattle.model.specs.declared.Objective.the-variants.{Time, ThermalEnergy, To
 use Rattle.model.proofs.Costs.{allCharges, cost-parts}
 use Rattle.model.proofs.Sizes.{Sizes}
 use Rattle.linear.specs.Charges.{chargedAt, chargesOf, abCost}
-use Rattle.linear.proofs.Columns.{list-cong, charged-columns}
+use Rattle.model.proofs.Weights.{list-cong}
+use Rattle.linear.proofs.Columns.{charged-columns}
 
 module _ (p : Problem) where
   -- the stationary counts, as the code has them

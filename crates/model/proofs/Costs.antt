@@ -15,7 +15,7 @@ use Rattle.model.specs.Lists.{list, given, joined}
 use Rattle.model.specs.Problem.{Problem, Path, objectives, n, m, L, ends, flag, skip, some, isLinear, hasRoot}
 use Rattle.model.specs.Program.{Cell, Block, nothing, charged}
 use Rattle.model.specs.Standard.{standard, root, rootStage}
-use Rattle.model.specs.Objectives.{timeWeight, timeBlock, thermalBlock, torqueBlock, linearBlock, objectiveBlock}
+use Rattle.model.specs.Objectives.{timeWeights, timeBlock, thermalBlock, torqueBlock, linearBlock, objectiveBlock}
 use Rattle.model.specs.Assembled.{width, costAfter, objectiveBlocks, blocks, cost}
 use Rattle.model.specs.Conic.{units, sumTo, costAt}
 use Rattle.model.specs.declared.FourCounts.{FourCounts}
@@ -156,7 +156,7 @@ module _ (p : Problem) where
 
     objective-cost : (c : ℕ) (o : Objective) → worth z (objectiveBlock p c o .cost) c ≡ objectiveCost p z c o
     unfolding objectiveBlock timeBlock thermalBlock torqueBlock linearBlock ends
-    objective-cost c (Time w) = worth-list z (λ j. w ⊗ timeWeight q (skip q + j)) (L q) c
+    objective-cost c (Time w) = worth-list z (λ j. w ⊗ at (timeWeights q) (skip q + j)) (L q) c
     objective-cost c (ThermalEnergy w start len) =
         worth-ends z (ltb 0 (q .N0)) (ltb 0 (q .N1)) _ _ (λ j. +4 ⊗ w ⊗ at (p .thermal) (skip q + j)) (L q) c (flag (q .N0)) (ends q) (flag-of (q .N0)) (ap₂ _+_ (flag-of (q .N0)) (flag-of (q .N1)))
     objective-cost c (TotalVariationTorque w start len) = worth-replicate z (p .torque .d * (ends q + m q)) w c

@@ -1,6 +1,7 @@
 -- Demand 2, about what is assembled: "Rows and cones are proved to follow a definition written from Clarabel's conic form". The definition is specs/Conic.antt;
 -- what it means to a planner is specs/Meaning.antt. That the numbers are the Rust's is shown by running: docs/DIFFERENCES.md.
 use Prim.Native.Nat.{ℕ, _+_, _*_, _<_}
+use native.Mathlib.Omega.{arith}
 use mathlib.Core.Path.{_≡_, refl, sym, ap, ap₂, _∙_, subst}
 use mathlib.Core.Logic.{_↔_}
 use mathlib.Core.Bool.{Bool, true, false, cond, false≢true}
@@ -131,7 +132,7 @@ module _ (p : Problem) (ok : Acceptable p) where
       pub travel-time : Doubles (p .path .grid) → (m : Multiple (xi p D z) (L (p .path))) → travel p D w (m .M) ≼ pos (m .k) *ℤ costAt p z
       travel-time doubles m =
           subst (λ (y : ℤ). travel p D w (m .M) ≼ pos (m .k) *ℤ y) (sym time-alone)
-          (travel-least p D z w (firstOwnColumn p) time-means m (λ j l. weight-least p passed (sized p passed) doubles w (time-fit p passed w alone) (skip (p .path) + j)))
+          (travel-least p D z w (firstOwnColumn p) time-means m (λ j l. weight-least p passed (sized p passed) doubles w (time-fit p passed w alone) (skip (p .path) + j) (omega (arith, sized p passed .reach))))
 
       -- and just that where every X·E is D²
       pub travel-time-exactly : (m : Multiple (xi p D z) (L (p .path))) → ((j : ℕ) → j < L (p .path) → xi p D z j *ℤ z (firstOwnColumn p + j) ≡ pos D *ℤ pos D)

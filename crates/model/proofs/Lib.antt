@@ -23,6 +23,7 @@ pub mod Written
 pub mod Demand1
 pub mod Demand3
 pub mod Weights
+pub mod Request3
 pub mod Integers
 pub mod SumTo
 pub mod Exact

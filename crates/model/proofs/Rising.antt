@@ -16,7 +16,7 @@ use Rattle.model.specs.Numbers.{at, _⊗_, half, unfit, finite}
 use Rattle.model.specs.Problem.{Problem, Path, objectives, n, stop, s}
 use Rattle.model.specs.Verdicts.{_then_, lowest, itself}
 use Rattle.model.specs.Refusals.{refusal, boundaryRefusal, gridRefusal, setupRefusal, tablesRefusal, boundsRefusal, objectivesRefusal}
-use Rattle.model.specs.Objectives.{timeWeight}
+use Rattle.model.specs.Objectives.{timeWeights}
 use Rattle.model.specs.Conic.{units}
 use Rattle.model.specs.Meaning.{_≼_}
 use Rattle.model.specs.declared.Objective.the-variants.{Time}
@@ -24,6 +24,7 @@ use Rattle.model.specs.declared.Verdict.the-variants.{Accepted}
 use Rattle.model.proofs.All.{All}
 use Rattle.model.proofs.Sizes.{Sizes}
 use Rattle.model.proofs.Passes.{both, then-passes, refuse-passes, lowest-passes}
+use Rattle.model.proofs.Weights.{timeWeight, weight-at}
 use Rattle.model.proofs.Values.{value-lt}
 use Rattle.model.proofs.Signs.{plus, plus-units, plus-cond, mul-plus, fit-plus, half-plus, zero-is-plus}
 use Rattle.model.proofs.EndWeights.{Double, _≺_, lt-le, start-plus, end-plus, moving-plus}
@@ -101,8 +102,8 @@ module _ (p : Problem) (ok : refusal p ≡ Accepted) where
         halved _ (moving-plus (s q (k - 1)) (s q (k + 1)) (double (k - 1)) (double (k + 1)) (before (k - 1) (k + 1) (omega arith) (omega arith)))) (λ _. zero-is-plus)))
 
     -- no Time weight is below zero, at any station
-    pub weight-least : (w : Float) → unfit w ≡ false → (k : ℕ) → pos 0 ≼ units (w ⊗ timeWeight q k)
-    weight-least w h k = plus-units (w ⊗ timeWeight q k) (mul-plus binary64 w (timeWeight q k) (fit-plus w h) (weight-plus k))
+    pub weight-least : (w : Float) → unfit w ≡ false → (k : ℕ) → k ≤ n q → pos 0 ≼ units (w ⊗ at (timeWeights q) k)
+    weight-least w h k in-grid = plus-units _ (mul-plus binary64 w _ (fit-plus w h) (rw (weight-at q l k in-grid) (weight-plus k)))
 
   -- by refusal 11
   pub time-fit : (w : Float) → objectives p ≡ Time w ∷ [] → unfit w ≡ false

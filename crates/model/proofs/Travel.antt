@@ -11,9 +11,9 @@ use borrow.Author.Tests.{lt-ltb, le-ltb}
 use lib.IntN.{ℤ, pos, _+ℤ_, _*ℤ_, *ℤ-comm, *ℤ-zero, natAbs}
 use lib.Signed.{yes-nonNeg, pos-natAbs}
 use lib.Ieee.{Float}
-use Rattle.model.specs.Numbers.{_⊗_}
+use Rattle.model.specs.Numbers.{at, _⊗_}
 use Rattle.model.specs.Problem.{Problem, Path, L, skip}
-use Rattle.model.specs.Objectives.{timeWeight}
+use Rattle.model.specs.Objectives.{timeWeights}
 use Rattle.model.specs.Conic.{units, sumTo}
 use Rattle.model.specs.declared.Objective.the-variants.{Time}
 use Rattle.model.proofs.Integers.{AsDiff, is, as-diff, natural, differences, times-past, times-assoc}
@@ -61,7 +61,7 @@ pub record Multiple (X : ℕ → ℤ) (c : ℕ) : Type 0 where
 
 -- what a unit of eta number j costs
 abbrev pub weightOf : Problem → Float → ℕ → Float
-weightOf p w j = w ⊗ timeWeight (p .path) (skip (p .path) + j)
+weightOf p w j = w ⊗ at (timeWeights (p .path)) (skip (p .path) + j)
 
 -- the travel time over the grid, in units of 2^−1074 over k·D: the sum of the weights, each times D²·M j
 abbrev pub travel : Problem → ℕ → Float → (ℕ → ℤ) → ℤ

@@ -1,4 +1,4 @@
--- The Time weight of a station is the element of module 1's list.
+-- The Time weight of one station, worked out from the grid, is the element of module 1's list.
 use Prim.Native.Nat.{ℕ, zero, suc, _+_, _-_, _≤_, _<_}
 use native.Mathlib.Decide.{ℕ-discrete, decLt}
 use native.Mathlib.Omega.{arith}
@@ -7,15 +7,21 @@ use mathlib.Core.Logic.{_≢_}
 use mathlib.Core.Bool.{Bool, true, false, cond, _&&_, and-true, and-false}
 use mathlib.Core.List.{List, [], _∷_}
 use lib.ListN.{length, getD, set, replicate, length-set, length-replicate, getD-replicate}
-use lib.Seq.{sets, getD-set-same, getD-set-other}
+use lib.Seq.{sets, length-sets, getD-set-same, getD-set-other}
 use lib.Dec.{ltb, eqb}
 use lib.Ieee.{Float, nan}
 use borrow.Author.Tests.{lt-ltb, le-ltb, eq-eqb, ne-eqb}
 use Rattle.model.specs.Numbers.{at, _⊕_, _⊖_, _⊗_, +0, +5, +6, half}
 use Rattle.model.specs.Lists.{list}
 use Rattle.model.specs.Problem.{Path, n, m, s, stop}
-use Rattle.model.specs.Objectives.{timeWeights, timeWeight}
+use Rattle.model.specs.Objectives.{timeWeights}
 use Rattle.model.proofs.Sizes.{Sizes}
+
+-- two lists that agree wherever they have an element
+pub list-cong : {A : Type 0} (f g : ℕ → A) (k c : ℕ) → ((i : ℕ) → k ≤ i → i < k + c → f i ≡ g i) → list f k c ≡ list g k c
+list-cong f g k zero h = refl
+list-cong {A} f g k (suc c) h =
+    ap (λ (x : A). x ∷ list f (suc k) c) (h k (omega arith) (omega arith)) ∙ ap (λ (l : List A). g k ∷ l) (list-cong f g (suc k) c (λ i a b. h i (omega arith) (omega arith)))
 
 module _ {A : Type 0} (d : A) where
   -- after one store, made or not
@@ -51,6 +57,13 @@ module _ {A : Type 0} (d : A) where
   length-maybe true l i v = length-set l i v
 
 module _ (q : Path) where
+  -- how the code works out the weight of station k
+  unfoldable pub timeWeight : ℕ → Float
+  timeWeight k =
+      cond (ltb 0 (q .N0) && eqb k (q .N0)) (half ⊗ (+5 ⊗ s q k ⊕ s q (k + 1) ⊖ +6 ⊗ s q 0))
+      (cond (ltb 0 (q .N1) && eqb k (stop q)) (half ⊗ (+6 ⊗ s q (n q) ⊖ +5 ⊗ s q k ⊖ s q (k - 1)))
+      (cond (ltb (q .N0) k && ltb k (stop q)) (half ⊗ (s q (k + 1) ⊖ s q (k - 1))) +0))
+
   -- the list before the moving stations' stores
   abbrev atStart : Float
   atStart = half ⊗ (+5 ⊗ s q (q .N0) ⊕ s q (q .N0 + 1) ⊖ +6 ⊗ s q 0)
@@ -77,6 +90,10 @@ module _ (q : Path) (l : Sizes q) where
       ∙ ap (λ (x : Float). cond (ltb 0 (q .N1) && eqb k (stop q)) (atEnd q) x)
       (getD-maybe nan (ltb 0 (q .N0)) (replicate (n q + 1) +0) (q .N0) k (atStart q) (omega (arith, length-replicate (n q + 1) +0))
       ∙ ap (λ (x : Float). cond (ltb 0 (q .N0) && eqb k (q .N0)) (atStart q) x) (getD-replicate (n q + 1) k +0 nan (omega arith)))
+
+  pub weights-long : length (timeWeights q) ≡ n q + 1
+  unfolding timeWeights
+  weights-long = length-sets (both q) (q .N0 + 1) (list _ (q .N0 + 1) (m q - 1)) ∙ both-length
 
   -- a station that does not move within: module 1's list holds what the ends' stores left
   outside-at : (k : ℕ) → k ≤ n q → (q .N0 < k → stop q ≤ k) → at (timeWeights q) k ≡ at (both q) k
@@ -113,7 +130,7 @@ module _ (q : Path) (l : Sizes q) where
       go (yes y) = simp (le-ltb k (stop q) (o y), and-false)
       go (no y) = simp (le-ltb (q .N0) k (omega arith))
 
-  -- "Zero everywhere except ..": the weight of station k is element k of module 1's list
+  -- at every station
   pub weight-at : (k : ℕ) → k ≤ n q → at (timeWeights q) k ≡ timeWeight q k
   weight-at k h = go (ℕ-discrete (q .N0) k) (ℕ-discrete (stop q) k) (decLt (q .N0) k) (decLt k (stop q))
     where

@@ -6,7 +6,7 @@ use Rattle.model.specs.Base.{ℕ, _+_, _-_, _*_, _^_, _≤_, _<_, _≡_,
 use Rattle.model.specs.Numbers.{at, finite, _⊕_, _⊖_, _⊗_, _⊘_, +1, +4, −1½}
 use Rattle.model.specs.Lists.{list, total, part}
 use Rattle.model.specs.Problem.{Problem, Path, objectives, n, m, L, ends, flag, s, skip, stop, spacing, colA, colB, colXi, hasRoot}
-use Rattle.model.specs.Objectives.{timeWeight, torqueA, torqueB, torqueG}
+use Rattle.model.specs.Objectives.{timeWeights, torqueA, torqueB, torqueG}
 use Rattle.model.specs.Assembled.{cost}
 use Rattle.model.specs.Counts.{objectiveCounts}
 use Rattle.model.specs.Conic.{units, sumTo, squares}
@@ -178,7 +178,7 @@ module _ (p : Problem) (D : ℕ) (z : ℕ → ℤ) where
 module _ (p : Problem) (z : ℕ → ℤ) where
   -- of an objective's own columns: every eta; the t of the positive ends ("the stationary ends take the weight itself") and of every xi; the t of every change
   abbrev pub objectiveCost : ℕ → Objective → ℤ
-  objectiveCost c (Time w) = sumTo (λ j. (w ⊗ timeWeight (p .path) (skip (p .path) + j)) · z (c + j)) (L (p .path))
+  objectiveCost c (Time w) = sumTo (λ j. (w ⊗ at (timeWeights (p .path)) (skip (p .path) + j)) · z (c + j)) (L (p .path))
   objectiveCost c (ThermalEnergy w start len) =
       cond (ltb 0 (p .path .N0)) ((w ⊗ at (p .thermal) 0) · z c) (pos 0)
       +ℤ cond (ltb 0 (p .path .N1)) ((w ⊗ at (p .thermal) (n (p .path))) · z (c + flag (p .path .N0))) (pos 0)

@@ -1,5 +1,5 @@
 -- Module 1, and module 6: "Time, ThermalEnergy, TotalVariationTorque, Linear .., as `clarabel_objective_copp3` orders them." c is the objective's first own column.
-use Rattle.model.specs.Base.{ℕ, _+_, _-_, _*_, cond, _&&_, List, [], _∷_, _++_, getD, set, replicate, sets, ltb, eqb, Float, nan, neg, Objective, Time, ThermalEnergy, TotalVariationTorque, Linear}
+use Rattle.model.specs.Base.{ℕ, _+_, _-_, _*_, cond, List, [], _∷_, _++_, getD, set, replicate, sets, ltb, Float, nan, neg, Objective, Time, ThermalEnergy, TotalVariationTorque, Linear}
 use Rattle.model.specs.Numbers.{at, _⊕_, _⊖_, _⊗_, _⊘_, +0, +1, −1, +2, +4, +5, +6, half, +1½}
 use Rattle.model.specs.Lists.{list, over, given, part}
 use Rattle.model.specs.Problem.{Problem, Path, Torque, Roots, n, m, L, ends, flag, skip, stop, s, colA, colB, colXi}
@@ -15,14 +15,8 @@ module _ (q : Path) where
       let both = cond (ltb 0 (q .N1)) (set start (stop q) (half ⊗ (+6 ⊗ s q (n q) ⊖ +5 ⊗ s q (stop q) ⊖ s q (stop q - 1)))) start in
       sets both (q .N0 + 1) (list (λ k. half ⊗ (s q (k + 1) ⊖ s q (k - 1))) (q .N0 + 1) (m q - 1))
 
-  -- the Time weight of station k on its own: element k of that list (proofs/Weights.antt, `weight-at`)
-  unfoldable pub timeWeight : ℕ → Float
-  timeWeight k =
-      cond (ltb 0 (q .N0) && eqb k (q .N0)) (half ⊗ (+5 ⊗ s q k ⊕ s q (k + 1) ⊖ +6 ⊗ s q 0))
-      (cond (ltb 0 (q .N1) && eqb k (stop q)) (half ⊗ (+6 ⊗ s q (n q) ⊖ +5 ⊗ s q k ⊖ s q (k - 1)))
-      (cond (ltb (q .N0) k && ltb k (stop q)) (half ⊗ (s q (k + 1) ⊖ s q (k - 1))) +0))
-
-  -- Time: two rows on xi and the own column; the last row "has no entry; it carries the 2"
+  -- Time: two rows on xi and the own column; the last row "has no entry; it carries the 2". An own column costs the weight times the list at that xi's station
+  -- ("it belongs to station max(N0,1)+j"); no list is kept where it is computed (request 3, proofs/Request3.antt)
   unfoldable pub timeCone : ℕ → ℕ → Cone
   timeCone c j =
       cone 2
@@ -35,7 +29,7 @@ module _ (q : Path) where
   timeBlock w c =
       record {
         cones = cone 1 (list (λ j. positiveRow (c + j)) 0 (L q)) ∷ list (timeCone c) 0 (L q);
-        cost = list (λ j. w ⊗ timeWeight (skip q + j)) 0 (L q);
+        cost = list (λ j. w ⊗ at timeWeights (skip q + j)) 0 (L q);
         charges = [];
       }
 

@@ -5,10 +5,10 @@ ghost use mathlib.Core.List.{[], _∷_};
 ghost use Prim.Native.Nat.{_+_, _*_, _^_, _<_, _≤_};
 ghost use lib.ListN.{length};
 ghost use Rattle.model.specs.Lent.{atEntry};
-ghost use Rattle.model.specs.Numbers.{_⊗_};
+ghost use Rattle.model.specs.Numbers.{at, _⊗_};
 ghost use Rattle.model.specs.Lists.{list};
 ghost use Rattle.model.specs.Problem.{L, skip};
-ghost use Rattle.model.specs.Objectives.{timeWeight, timeCone, timeBlock};
+ghost use Rattle.model.specs.Objectives.{timeWeights, timeCone, timeBlock};
 ghost use Rattle.buffers.specs.Bounds.{timeRoom};
 ghost use Rattle.buffers.specs.Lent.{Room, RoomAll, wrote, closed, built, fillsCost};
 ghost use Rattle.buffers.specs.Inputs.{path, Sized};
@@ -106,10 +106,10 @@ fn time_cones(
     u
 }
 
-// The Time weight of station k.
+// The Time weight of station k, worked out from the grid: what the list of module 1 would hold there.
 pub fn get_weight_a_topp3(grid: &[f64], ends: Ends, k: usize) -> f64
-    requires { ⌜ Sized (now grid) ends × (0 < k) × (k + 1 < length (now grid)) ⌝ }
-    ensures { λ r. ⌜ r ≡ timeWeight (path (atEntry grid) ends) k ⌝ }
+    requires { ⌜ Sized (now grid) ends × (k < length (now grid)) ⌝ }
+    ensures { λ r. ⌜ r ≡ at (timeWeights (path (atEntry grid) ends)) k ⌝ }
 {
     let last = grid.len() - 1;
     let stop = last - ends.n1;
@@ -128,7 +128,7 @@ pub fn get_weight_a_topp3(grid: &[f64], ends: Ends, k: usize) -> f64
 // The cost of Time's columns.
 fn time_costs(t: Tally, cost: &mut [f64], grid: &[f64], ends: Ends, weight: f64) -> Tally
     requires { ⌜ (t .columns .at + length (now grid) ≤ 2 ^ 32) × Sized (now grid) ends ⌝ }
-    ensures { λ r. ⌜ fillsCost t cost r (λ j. weight ⊗ timeWeight (path (atEntry grid) ends) (skip (path (atEntry grid) ends) + j)) 0 (L (path (atEntry grid) ends)) ⌝ }
+    ensures { λ r. ⌜ fillsCost t cost r (λ j. weight ⊗ at (timeWeights (path (atEntry grid) ends)) (skip (path (atEntry grid) ends) + j)) 0 (L (path (atEntry grid) ends)) ⌝ }
 {
     let count = columns::length_xi(grid, ends);
     let first = numbers::larger(ends.n0, 1);

@@ -3,9 +3,9 @@ use mathlib.Core.Path.{subst, ap, _∙_}
 use native.Mathlib.Omega.{arith}
 use lib.ListN.{length}
 use denote.Ref.{now}
-use Rattle.model.specs.Numbers.{finite, _⊗_}
+use Rattle.model.specs.Numbers.{at, finite, _⊗_}
 use Rattle.model.specs.Problem.{L, skip}
-use Rattle.model.specs.Objectives.{timeWeight}
+use Rattle.model.specs.Objectives.{timeWeights}
 use Rattle.buffers.specs.Inputs.{path}
 use Rattle.columns.proofs.Xi.{xi-next}
 use Rattle.finiteness.specs.Finite.{Each}
@@ -15,7 +15,7 @@ use Rattle.finite_objectives.proofs.time.Statement.{statement}
 use Rattle.finite_objectives.proofs.time.Tie as tie
 
 abbrev Inv-loop : tie.InvT-loop
-Inv-loop grid ends weight count first ok₀ i₀ ok i = (i ≤ count) × Each ok (λ j. finite (weight ⊗ timeWeight (path grid ends) (first + j))) 0 i
+Inv-loop grid ends weight count first ok₀ i₀ ok i = (i ≤ count) × Each ok (λ j. finite (weight ⊗ at (timeWeights (path grid ends)) (first + j))) 0 i
 
 abbrev μ-loop : tie.MeasureT-loop
 μ-loop grid ends weight count first ok₀ i₀ ok i = count - i
@@ -54,5 +54,5 @@ time-spec =
     (λ c. omega (arith, (c .before .before .before .loop-test)))
     (λ c. omega (arith, (c .before .before .before .loop-test)))
     (λ c. let c1 = c .before in let c2 = c1 .before in let c3 = c2 .before in let c4 = c3 .before in let c5 = c4 .before in let c8 = c5 .before .before .before in
-    let a = (c8 .args) in (omega (arith, (c3 .loop-test)), each-more ((c4 .loop .inv) .1) (each-zero (λ j. finite (a .weight ⊗ timeWeight (path (now (a .grid)) (a .ends)) ((c5 .larger .result) + j))) (c4 .loop .i) ((c1 .is-finite .ensures) ∙ ap (λ x. finite (a .weight ⊗ x)) (c2 .get-weight-a-topp3 .ensures))) (c .both .ensures)))
+    let a = (c8 .args) in (omega (arith, (c3 .loop-test)), each-more ((c4 .loop .inv) .1) (each-zero (λ j. finite (a .weight ⊗ at (timeWeights (path (now (a .grid)) (a .ends))) ((c5 .larger .result) + j))) (c4 .loop .i) ((c1 .is-finite .ensures) ∙ ap (λ x. finite (a .weight ⊗ x)) (c2 .get-weight-a-topp3 .ensures))) (c .both .ensures)))
     returns)

@@ -3,9 +3,9 @@ use mathlib.Core.Path.{subst, ap}
 use native.Mathlib.Omega.{arith}
 use lib.ListN.{length}
 use denote.Ref.{now}
-use Rattle.model.specs.Numbers.{_⊗_}
+use Rattle.model.specs.Numbers.{at, _⊗_}
 use Rattle.model.specs.Problem.{L, skip}
-use Rattle.model.specs.Objectives.{timeWeight}
+use Rattle.model.specs.Objectives.{timeWeights}
 use Rattle.buffers.specs.Inputs.{path}
 use Rattle.buffers.specs.Buffers.{FillsCost}
 use Rattle.buffers.proofs.Laws.{cost-none, cost-all, cost-length}
@@ -16,7 +16,7 @@ use Rattle.time.proofs.time_costs.Statement.{statement}
 use Rattle.time.proofs.time_costs.Tie as tie
 
 abbrev Inv-loop : tie.InvT-loop
-Inv-loop cost₀ grid ends weight count first u₀ i₀ cost u i = (i ≤ count) × FillsCost u₀ cost₀ u cost (λ j. weight ⊗ timeWeight (path grid ends) (first + j)) 0 i
+Inv-loop cost₀ grid ends weight count first u₀ i₀ cost u i = (i ≤ count) × FillsCost u₀ cost₀ u cost (λ j. weight ⊗ at (timeWeights (path grid ends)) (first + j)) 0 i
 
 abbrev μ-loop : tie.MeasureT-loop
 μ-loop cost₀ grid ends weight count first u₀ i₀ cost u i = count - i
