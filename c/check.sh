@@ -18,6 +18,6 @@ head -n 1 "$out/example.txt"
 echo "C example: passed"
 
 "${CC:-cc}" -std=c11 -Wall -Wextra -Werror -O1 -pthread -Wl,-z,now \
-    -I "$here/../include" "$here/stack.c" "$lib/libcopp3_c.a" -lm -o "$out/stack"
+    -I "$here/../include" "$here/stack.c" "$lib/libcopp3_c.a" -o "$out/stack"
 "$out/stack"
 echo "stack of a call: passed"

@@ -242,8 +242,9 @@ typedef struct {
     uint64_t owner;
 } copp3_owner;
 
-/* Bytes of stack that a call of any of these functions needs at most, its
- * arguments and the caller's copies of them included; the same for every n. */
+/* Bytes of stack to reserve for a call of any of these functions, its arguments
+ * and the caller's copies of them included; the same for every n. Rounded up
+ * from what c/stack.c measures. Signal handlers come on top. */
 #define COPP3_STACK_BYTES 10240
 
 /* Tells the four counts, or every refusal tested before 19. */

@@ -19,7 +19,7 @@ use Rattle.model.specs.declared.Objective.the-variants.{Time, ThermalEnergy, To
 use Rattle.model.proofs.Costs.{allCharges, cost-parts}
 use Rattle.model.proofs.Sizes.{Sizes}
 use Rattle.linear.specs.Charges.{chargedAt, chargesOf, abCost}
-use Rattle.model.proofs.Weights.{list-cong}
+use Rattle.model.proofs.Sums.{list-cong}
 use Rattle.linear.proofs.Columns.{charged-columns}
 
 module _ (p : Problem) where

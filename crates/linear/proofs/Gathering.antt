@@ -17,11 +17,10 @@ use Rattle.model.specs.declared.Ends.{Ends}
 use Rattle.model.specs.declared.Objective.{Objective}
 use Rattle.model.specs.declared.Objective.the-variants.{Time, ThermalEnergy, TotalVariationTorque, Linear}
 use Rattle.model.proofs.All.{All, all-list}
-use Rattle.model.proofs.Sums.{joined-append}
+use Rattle.model.proofs.Sums.{list-cong, joined-append}
 use Rattle.buffers.proofs.Laws.{list-snoc}
 use Rattle.linear.specs.Charges.{Charged, chargedAt, chargesOf, abCost, Fits, Long, AllLong, Gathers, only, gathered, Gives}
 use Rattle.linear.proofs.Charges.{charged-then}
-use Rattle.model.proofs.Weights.{list-cong}
 
 module _ {A B : Type 0} (f : A → List B) where
   joined-snoc : (g : ℕ → A) (i : ℕ) → joined f (list g 0 (suc i)) ≡ joined f (list g 0 i) ++ f (g i)

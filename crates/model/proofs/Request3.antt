@@ -11,8 +11,9 @@ use Rattle.model.specs.Problem.{Problem, Path, n, L, skip}
 use Rattle.model.specs.Refusals.{refusal}
 use Rattle.model.specs.Objectives.{timeWeights, timeBlock}
 use Rattle.model.specs.declared.Verdict.the-variants.{Accepted}
+use Rattle.model.proofs.Sums.{list-cong}
 use Rattle.model.proofs.Usable.{usable, usable-sizes}
-use Rattle.model.proofs.Weights.{timeWeight, list-cong, weights-long, weight-at}
+use Rattle.model.proofs.Weights.{timeWeight, weights-long, weight-at}
 
 -- For every problem that passes refusals 1 to 18; `timeWeight` is what `time::get_weight_a_topp3` computes
 pub record Request3 (q : Path) : Type 0 where

@@ -17,12 +17,6 @@ use Rattle.model.specs.Problem.{Path, n, m, s, stop}
 use Rattle.model.specs.Objectives.{timeWeights}
 use Rattle.model.proofs.Sizes.{Sizes}
 
--- two lists that agree wherever they have an element
-pub list-cong : {A : Type 0} (f g : ℕ → A) (k c : ℕ) → ((i : ℕ) → k ≤ i → i < k + c → f i ≡ g i) → list f k c ≡ list g k c
-list-cong f g k zero h = refl
-list-cong {A} f g k (suc c) h =
-    ap (λ (x : A). x ∷ list f (suc k) c) (h k (omega arith) (omega arith)) ∙ ap (λ (l : List A). g k ∷ l) (list-cong f g (suc k) c (λ i a b. h i (omega arith) (omega arith)))
-
 module _ {A : Type 0} (d : A) where
   -- after one store, made or not
   getD-maybe : (b : Bool) (l : List A) (i k : ℕ) (v : A) → i < length l → getD (cond b (set l i v) l) k d ≡ cond (b && eqb k i) v (getD l k d)

@@ -15,8 +15,7 @@ module _ (q : Path) where
       let both = cond (ltb 0 (q .N1)) (set start (stop q) (half ⊗ (+6 ⊗ s q (n q) ⊖ +5 ⊗ s q (stop q) ⊖ s q (stop q - 1)))) start in
       sets both (q .N0 + 1) (list (λ k. half ⊗ (s q (k + 1) ⊖ s q (k - 1))) (q .N0 + 1) (m q - 1))
 
-  -- Time: two rows on xi and the own column; the last row "has no entry; it carries the 2". An own column costs the weight times the list at that xi's station
-  -- ("it belongs to station max(N0,1)+j"); no list is kept where it is computed (request 3, proofs/Request3.antt)
+  -- Time: two rows on xi and the own column; the last row "has no entry; it carries the 2"
   unfoldable pub timeCone : ℕ → ℕ → Cone
   timeCone c j =
       cone 2
@@ -25,6 +24,8 @@ module _ (q : Path) where
       ∷ row +2 []
       ∷ [])
 
+  -- the cost of own column j: the weight times the list's element at the station of xi number j, which "belongs to station max(N0,1)+j". The list is the definition's
+  -- alone: "maintenance wants no list of them, lent or our own" (request 3, proofs/Request3.antt)
   unfoldable pub timeBlock : Float → ℕ → Block
   timeBlock w c =
       record {
