@@ -29,6 +29,17 @@ def antt_files():
         yield f
 
 
+def imported(text):
+    """The names that a file takes from the library: those stay as they are in it, whatever ours are called."""
+    own = {os.path.basename(c) for c in glob.glob("crates/*")}
+    kept = set()
+    for m in re.finditer(r"(?m)^\s*(?:pub |ghost )?use ([^\s{;]+)\.\{([^}]*)\}", text):
+        path = m.group(1).split(".")
+        if path[0] != "Rattle" or path[1] not in own:
+            kept |= {w.strip().split(" as ")[0] for w in m.group(2).split(",")}
+    return kept
+
+
 def split_comment(line):
     """The code of a line and its comment."""
     m = re.search(r"(^|\s)--(\s|$)", line)
@@ -142,8 +153,10 @@ def main():
     for f in antt_files():
         with open(f, encoding="utf-8") as it:
             before = it.read()
-        falls += together(f, before, t, names)
-        changes.append((f, before, turn_antt(before, t)))
+        kept = imported(before)
+        here = {k: v for k, v in t.items() if k not in kept}
+        falls += together(f, before, here, names)
+        changes.append((f, before, turn_antt(before, here)))
     for f in sorted(glob.glob("crates/*/src/**/*.rt", recursive=True)):
         with open(f, encoding="utf-8") as it:
             before = it.read()

@@ -3,7 +3,7 @@ use mathlib.Core.Path.{◌≡◌, refl, sym, ap, subst, ◌∙◌}
 use mathlib.Core.Bool.{Bool, true, false, ◌&&◌}
 use mathlib.Core.List.{List, [], ◌∷◌, ◌++◌, map, map-append, append-nil, append_assoc}
 use Prim.Native.Nat.{ℕ, zero, suc, ◌+◌, ◌*◌, ◌≤◌}
-use native.Mathlib.Nat.{add-zero, zero-add, add-suc, suc-add, add_assoc, le_refl, zero-mul, mul-suc, suc-mul, add_mul, mul-one}
+use native.Mathlib.Nat.{add-zero, zero-add, add-suc, suc-add, add_assoc, le_refl, zero-mul, mul-suc, suc-mul, add-mul, mul-one}
 use native.Mathlib.Numerals.{add-one}
 use native.Mathlib.Omega.{arith}
 use lib.Ieee.{Float}
@@ -337,7 +337,7 @@ module _ {t : Tally} {R C : List ℕ} {W : List Float} {n m : ℕ} where
   columns_then {fs} {gs} a b =
       record {
         adds = rw (joined-append (λ (f : ℕ → Cell). list (λ i. entry (n + i) (f i)) 0 m) fs gs) (adds_then a.adds b.adds);
-        entries = let e = length-append fs gs in let d = add_mul (length fs) (length gs) m in rw (e, d) (omega arith);
+        entries = let e = length-append fs gs in let d = add-mul (length fs) (length gs) m in rw (e, d) (omega arith);
         rows = b.rows ∙ a.rows;
         cones = b.cones ∙ a.cones;
         columns = b.columns ∙ a.columns;

@@ -1,6 +1,6 @@
 -- The sizes of the root stage and of the objectives: rows and entries by one measure, cones, columns.
 use Prim.Native.Nat.{ℕ, ◌+◌, ◌*◌}
-use native.Mathlib.Nat.{add-zero, add_mul}
+use native.Mathlib.Nat.{add-zero, add-mul}
 use native.Mathlib.Omega.{arith}
 use mathlib.Core.Path.{◌≡◌}
 use mathlib.Core.List.{List}
@@ -40,7 +40,7 @@ module _ (q : Path) (g : ℕ → ℕ) where
   pub thermal_measure : (x : Torque) (weights : List Float) (w : Float) (o : List Float) (c : ℕ) → sum (cone_measure g) (thermal_block q x weights w o c).cones ≡ (ends q + L q) * (2 * g 2 + x.d * g 2)
   unfolding thermal_block ends
   thermal_measure x weights w o c =
-      simp (sum_append (cone_measure g), sum_given (cone_measure g), sum_list (cone_measure g), flag_of, thermal_cone_measure, sum_over_const, add-zero, add_mul)
+      simp (sum_append (cone_measure g), sum_given (cone_measure g), sum_list (cone_measure g), flag_of, thermal_cone_measure, sum_over_const, add-zero, add-mul)
 
   end_torque_measure : (x : Torque) (o : List Float) (t k z i : ℕ) → sum (measure g) (end_torque_rows q x o t k z i) ≡ 2 * g 3
   unfolding end_torque_rows
@@ -52,4 +52,4 @@ module _ (q : Path) (g : ℕ → ℕ) where
 
   pub torque_measure : (x : Torque) (w : Float) (o : List Float) (c : ℕ) → sum (cone_measure g) (torque_block q x w o c).cones ≡ ends q * (x.d * (2 * g 3)) + m q * (x.d * (2 * g 5))
   unfolding torque_block ends
-  torque_measure x w o c = simp (sum_append (measure g), sum_given (measure g), flag_of, sum_over_lem (measure g), end_torque_measure, step_torque_measure, sum_over_const, add-zero, add_mul)
+  torque_measure x w o c = simp (sum_append (measure g), sum_given (measure g), flag_of, sum_over_lem (measure g), end_torque_measure, step_torque_measure, sum_over_const, add-zero, add-mul)

@@ -1,7 +1,7 @@
 -- The sizes of the standard rows. A measure of a band is its height times some number g of its columns: with g = 1 it counts rows, and with g the
 -- number itself entries. So each count is shown once.
 use Prim.Native.Nat.{ℕ, suc, ◌+◌, ◌-◌, ◌*◌, min}
-use native.Mathlib.Nat.{one-mul, mul-one, mul-add, add-zero, add_mul, add_comm}
+use native.Mathlib.Nat.{one-mul, mul-one, mul-add, add-zero, add-mul, add_comm}
 use native.Mathlib.Numerals.{add-one}
 use native.Mathlib.Omega.{arith}
 use mathlib.Core.Path.{◌≡◌, refl, ap, ◌∙◌}
@@ -64,7 +64,7 @@ module _ (q : Path) (g : ℕ → ℕ) where
   -- station k has its rows backward unless it is the first, and forward unless it is the last
   jerk_measure : (t : Jerk) (k : ℕ) → sum (measure g) (jerk_rows_at q t k) ≡ (cond (ltb q.N0 k) 1 0 + cond (ltb k (stop q)) 1 0) * (get_or t.counts k 0 * g 3)
   unfolding jerk_rows_at
-  jerk_measure t k = simp (sum_append (measure g), sum_given (measure g), backward_measure, forward_measure, add-zero, add_mul)
+  jerk_measure t k = simp (sum_append (measure g), sum_given (measure g), backward_measure, forward_measure, add-zero, add-mul)
 
   first_order_measure : (y : Limits) → sum (measure g) (first_order q y)
       ≡ min q.N0 1 * (upper y.start.maximum * g 1 + g 1) + min q.N1 1 * (upper y.end.maximum * g 1 + g 1)
@@ -83,9 +83,9 @@ module _ (q : Path) (g : ℕ → ℕ) where
         sum_over_below f (stop q) q.N0 (m q) l.stops ∙ sum_over_times (λ i. get_or t.counts i 0) (g 3) q.N0 (m q) in
         ap (λ (x : ℕ). sum (measure g) (over (jerk_rows_at q t) q.N0 x)) (add-one (m q))
         ∙ sum_over_lem (measure g) (jerk_rows_at q t) q.N0 (suc (m q))
-        ∙ sum_over_ext _ (λ i. cond (ltb q.N0 i) 1 0 * f i + cond (ltb i (stop q)) 1 0 * f i) q.N0 (suc (m q)) (λ i _ _. jerk_measure t i ∙ simp add_mul)
+        ∙ sum_over_ext _ (λ i. cond (ltb q.N0 i) 1 0 * f i + cond (ltb i (stop q)) 1 0 * f i) q.N0 (suc (m q)) (λ i _ _. jerk_measure t i ∙ simp add-mul)
         ∙ sum_over_plus (λ i. cond (ltb q.N0 i) 1 0 * f i) (λ i. cond (ltb i (stop q)) 1 0 * f i) q.N0 (suc (m q))
-        ∙ rw (a, b, add_mul) (add_comm _ _)
+        ∙ rw (a, b, add-mul) (add_comm _ _)
 
     pub inequalities_measure : (y : Limits) (u : Acceleration) (t : Jerk)
         → sum (measure g) (inequalities q y u t) ≡ sum (measure g) (first_order q y) + acc_inside q u.counts * g 2 + jerk_inside q t.counts * g 3

@@ -3,7 +3,7 @@ use mathlib.Core.Path.{◌≡◌}
 use mathlib.Core.Bool.{true, not}
 use mathlib.Core.List.{List, [], ◌∷◌}
 use lib.Ieee.{Float}
-use borrow.Author.Tests.{not_false}
+use borrow.Author.Tests.{not-false}
 use Rattle.model.specs.Numbers.{finite}
 use Rattle.model.specs.Problem.{Problem}
 use Rattle.model.specs.Assembled.{values, right_side, cost, all_finite}
@@ -27,6 +27,6 @@ pub record FiniteLists (p : Problem) : Type 0 where
 pub finite_lists : (p : Problem) → finite_refusal p ≡ Accepted → FiniteLists p
 unfolding finite_refusal
 finite_lists p e =
-    let t = both _ _ (not_false _ ((refuse_passes 20 0 (not (every_finite p))).0 e)) in
+    let t = both _ _ (not-false _ ((refuse_passes 20 0 (not (every_finite p))).0 e)) in
     let k = both (all_finite (values p)) (all_finite (right_side p)) t.0 in
     record { values = all_finite_lem (values p) k.0; right = all_finite_lem (right_side p) k.1; cost = all_finite_lem (cost p) t.1 }

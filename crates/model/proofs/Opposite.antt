@@ -4,7 +4,7 @@ use native.Mathlib.Nat.{mul_comm, add_comm, mul-pos}
 use native.Mathlib.Decide.{dec_lt}
 use native.Mathlib.Omega.{arith}
 use mathlib.Core.Path.{◌≡◌, refl, sym, ap, ◌∙◌}
-use mathlib.Core.Bool.{Bool, true, false, not, cond, ◌&&◌, and_true, and-false}
+use mathlib.Core.Bool.{Bool, true, false, not, cond, ◌&&◌, and-true, and-false}
 use lib.Dec.{ltb}
 use lib.IntN.{pos, neg_ℤ, neg_ℤ-neg_ℤ}
 use lib.Ieee
@@ -49,8 +49,8 @@ like s a b c = ap (λ (x : ℕ). units (round binary64 (not s) x c)) (add_comm b
 unlike : (s : Bool) (a b c : ℕ) → 0 < c → Dec (a < b) → Dec (b < a)
     → units (cond (ltb b a) (round binary64 (not s) (a - b) c) (round binary64 (s && ltb a b) (b - a) c)) ≡ neg_ℤ (units (cond (ltb a b) (round binary64 (not s) (b - a) c) (round binary64 (s && ltb b a) (a - b) c)))
 unlike s a b c h (yes x) y =
-    simp (lt-ltb a b x, le-ltb b a (omega arith), and_true) (sym (neg_ℤ-neg_ℤ (units (round binary64 s (b - a) c))) ∙ ap neg_ℤ (sym (units_opposite s (b - a) c)))
-unlike s a b c h (no x) (yes y) = simp (lt-ltb b a y, le-ltb a b (omega arith), and_true) (units_opposite s (a - b) c)
+    simp (lt-ltb a b x, le-ltb b a (omega arith), and-true) (sym (neg_ℤ-neg_ℤ (units (round binary64 s (b - a) c))) ∙ ap neg_ℤ (sym (units_opposite s (b - a) c)))
+unlike s a b c h (no x) (yes y) = simp (lt-ltb b a y, le-ltb a b (omega arith), and-true) (units_opposite s (a - b) c)
 unlike s a b c h (no x) (no y) =
     let e : a - b ≡ 0 = omega arith in
     let f : b - a ≡ 0 = omega arith in

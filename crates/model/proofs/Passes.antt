@@ -6,7 +6,7 @@ use mathlib.Core.Path.{◌≡◌, refl}
 use mathlib.Core.Logic.{◌↔◌, ◌≢◌}
 use mathlib.Core.Bool.{Bool, true, false, not, ◌&&◌, ◌||◌, false≢true}
 use lib.Dec.{ltb, leb, eqb}
-use borrow.Author.Tests.{ltb-false, leb-false, eqb-true, eqb-false, not_false, le-ltb, lt-leb, eq-eqb, ne_eqb}
+use borrow.Author.Tests.{ltb-false, leb-false, eqb-true, eqb-false, not-false, le-ltb, lt-leb, eq-eqb, ne_eqb}
 use Rattle.model.specs.Verdicts.{◌then◌, refuse, lowest}
 use Rattle.model.specs.Refusals.{table, table_if}
 use Rattle.model.specs.declared.Verdict.{Verdict}
@@ -56,7 +56,7 @@ eqb_fails a b = (eqb-false a b, ne_eqb a b)
 -- a table that counts has its length
 pub table_if_exact : (counts : Bool) (t have need : ℕ) → (table_if counts t have need ≡ Accepted) ↔ (counts ≡ true → have ≡ need)
 unfolding table_if refuse
-table_if_exact true t have need = (λ e _. eqb-true have need (not_false (eqb have need) ((refuse_passes 15 t (not (eqb have need))).0 e)), λ h. simp (eq-eqb have need (h refl)))
+table_if_exact true t have need = (λ e _. eqb-true have need (not-false (eqb have need) ((refuse_passes 15 t (not (eqb have need))).0 e)), λ h. simp (eq-eqb have need (h refl)))
 table_if_exact false t have need = (λ _ c. cc, λ _. refl)
 
 pub table_exact : (t have need : ℕ) → (table t have need ≡ Accepted) ↔ (have ≡ need)

@@ -11,7 +11,7 @@ use lib.Signed.{<ℤ-≤ℤ_trans}
 use lib.Ieee.{Float, binary64, lt, of_bits}
 use lib.Ieee.Bits.{of_bits-fits}
 use lib.Ieee.Fits.{nan-fits}
-use borrow.Author.Tests.{ltb-true, eqb-true, not_false}
+use borrow.Author.Tests.{ltb-true, eqb-true, not-false}
 use Rattle.model.specs.Numbers.{at, ◌⊗◌, half, unfit, finite}
 use Rattle.model.specs.Problem.{Problem, Path, objectives, n, stop, s}
 use Rattle.model.specs.Verdicts.{◌then◌, lowest, itself}
@@ -55,12 +55,12 @@ module _ (p : Problem) (ok : refusal p ≡ Accepted) where
   grid_passes = (simp (then_passes, refuse_passes) at ((then_passes (grid_refusal q.grid) _).0 later).0).1.1
 
   grid_finite : (k : ℕ) → k ≤ n q → Sizes q → finite (s q k) ≡ true
-  grid_finite k h l = not_false _ (lowest_passes 6 itself _ 0 (length q.grid) grid_passes.0 k (omega arith) (omega arith))
+  grid_finite k h l = not-false _ (lowest_passes 6 itself _ 0 (length q.grid) grid_passes.0 k (omega arith) (omega arith))
 
   grid_rises : (k : ℕ) → k < n q → lt (s q k) (s q (k + 1)) ≡ true
   grid_rises k h =
       let e : k + 1 - 1 ≡ k = omega arith in
-      rw e at (not_false (lt (at q.grid (k + 1 - 1)) (at q.grid (k + 1))) (lowest_passes 7 itself (λ k. not (lt (at q.grid (k - 1)) (at q.grid k))) 1 (length q.grid - 1) grid_passes.1 (k + 1) (omega arith) (omega arith)))
+      rw e at (not-false (lt (at q.grid (k + 1 - 1)) (at q.grid (k + 1))) (lowest_passes 7 itself (λ k. not (lt (at q.grid (k - 1)) (at q.grid k))) 1 (length q.grid - 1) grid_passes.1 (k + 1) (omega arith) (omega arith)))
 
   module _ (l : Sizes q) (doubles : Doubles q.grid) where
     double : (k : ℕ) → Double (s q k)

@@ -10,7 +10,7 @@ use lib.ListN.{length, get_or, get_or-eq_default}
 use lib.Seq.{get_or-take}
 use lib.Dec.{ltb, eqb}
 use lib.Ieee.{nan}
-use borrow.Author.Tests.{ltb-false, eqb-true, not_false}
+use borrow.Author.Tests.{ltb-false, eqb-true, not-false}
 use Rattle.model.specs.Problem.{Problem, objectives, n, some, is_thermal, is_torque, is_linear}
 pub use Rattle.model.proofs.Ready.{Listed, TorqueTables, ThermalTables, RootTables, Ready, Counting, CountingWith, Usable}
 use Rattle.model.specs.Verdicts.{lowest, itself}
@@ -33,7 +33,7 @@ few b l k e h i = go (dec_lt i k)
 module _ (p : Problem) where
   list_passes : (i need start len : ℕ) → list_refusal p.pool i need start len ≡ Accepted → Listed p need start len
   unfolding list_refusal
-  list_passes i need start len e = let h = simp passing at e in record { long = eqb-true len need (not_false (eqb len need) h.0); within = h.1 }
+  list_passes i need start len e = let h = simp passing at e in record { long = eqb-true len need (not-false (eqb len need) h.0); within = h.1 }
 
   scales_pass : (i start len : ℕ) → scales_refusal p.pool p.torque.d i start len ≡ Accepted → Listed p p.torque.d start len
   unfolding scales_refusal

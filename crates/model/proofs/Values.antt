@@ -4,7 +4,7 @@ use native.Mathlib.Nat.{le_of_mul-le-mul_right, mul-le-mul_right, mul_assoc, mul
 use native.Mathlib.Decide.{dec_lt}
 use native.Mathlib.Omega.{arith}
 use mathlib.Core.Path.{◌≡◌, refl, sym, ap, ap₂, ◌∙◌, subst}
-use mathlib.Core.Bool.{Bool, true, false, not, cond, ◌&&◌, and_true, and-false, false≢true}
+use mathlib.Core.Bool.{Bool, true, false, not, cond, ◌&&◌, and-true, and-false, false≢true}
 use lib.Dec.{T, eqb, ltb, leb→le, le→leb, lt→ltb}
 use lib.Pow.{pow_pos, shl-shr}
 use lib.IntN.{ℤ, pos, negsuc, neg_ℤ, nat_abs, neg_ℤ-neg_ℤ, ◌+ℤ◌, ◌-ℤ◌, ◌*ℤ◌}
@@ -150,7 +150,7 @@ module _ (f : Format) (A B a b D : ℕ) (d : 0 < D) (e : a * D ≡ A * 2 ^ low f
       simp (lt-ltb A B x) (λ ok. round_value f (not s) (B - A) D (b - a) d w.0 ok ∙ sym (ap (rounding p) (under s a b w.1) ∙ rounding_signed p (not s) (b - a)))
   apart s (no x) (yes y) =
       let w = difference A B a b D (2 ^ low f) d e g (omega arith) in
-      simp (le-ltb A B (omega arith), lt-ltb B A y, and_true) (λ ok. round_value f s (A - B) D (a - b) d w.0 ok ∙ sym (ap (rounding p) (over s a b w.1) ∙ rounding_signed p s (a - b)))
+      simp (le-ltb A B (omega arith), lt-ltb B A y, and-true) (λ ok. round_value f s (A - B) D (a - b) d w.0 ok ∙ sym (ap (rounding p) (over s a b w.1) ∙ rounding_signed p s (a - b)))
   apart s (no x) (no y) =
       let w = difference A B a b D (2 ^ low f) d e g (omega arith) in
       let v = difference B A b a D (2 ^ low f) d g e (omega arith) in

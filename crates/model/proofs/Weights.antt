@@ -4,7 +4,7 @@ use native.Mathlib.Decide.{ℕ_discrete, dec_lt}
 use native.Mathlib.Omega.{arith}
 use mathlib.Core.Path.{◌≡◌, refl, sym, ap, ◌∙◌, subst}
 use mathlib.Core.Logic.{◌≢◌}
-use mathlib.Core.Bool.{Bool, true, false, cond, ◌&&◌, and_true, and-false}
+use mathlib.Core.Bool.{Bool, true, false, cond, ◌&&◌, and-true, and-false}
 use mathlib.Core.List.{List, [], ◌∷◌}
 use lib.ListN.{length, get_or, set, replicate, length-set, length-replicate, get_or-replicate}
 use lib.Seq.{sets, length-sets, get_or-set_same, get_or-set_other}
@@ -102,13 +102,13 @@ module _ (q : Path) (l : Sizes q) where
   unfolding time_weight
   at_start_lem =
       outside_at q.N0 (omega arith) (λ x. absurd (omega arith)) ∙ both_at q.N0 (omega arith)
-      ∙ simp (eq-eqb q.N0 q.N0 refl, ne_eqb q.N0 (stop q) (omega arith), le-ltb q.N0 q.N0 (omega arith), and_true, and-false)
+      ∙ simp (eq-eqb q.N0 q.N0 refl, ne_eqb q.N0 (stop q) (omega arith), le-ltb q.N0 q.N0 (omega arith), and-true, and-false)
 
   at_end_lem : at (time_weights q) (stop q) ≡ time_weight q (stop q)
   unfolding time_weight
   at_end_lem =
       outside_at (stop q) (omega arith) (λ x. omega arith) ∙ both_at (stop q) (omega arith)
-      ∙ simp (eq-eqb (stop q) (stop q) refl, ne_eqb (stop q) q.N0 (omega arith), le-ltb (stop q) (stop q) (omega arith), and_true, and-false)
+      ∙ simp (eq-eqb (stop q) (stop q) refl, ne_eqb (stop q) q.N0 (omega arith), le-ltb (stop q) (stop q) (omega arith), and-true, and-false)
 
   between : (k : ℕ) → q.N0 < k → k < stop q → at (time_weights q) k ≡ time_weight q k
   unfolding time_weight time_weights

@@ -1,6 +1,6 @@
 -- `replay::replay_piece` meets its contract and ends: each case that is counted begins after the one before it and ends within the piece.
 use Rattle.std.proofs.Common.{◌≡◌, ℕ, ◌-◌, ◌≤◌, Bool, true, leb, length, sym, ◌∙◌, arith, leb-true}
-use borrow.Author.Tests.{not_false}
+use borrow.Author.Tests.{not-false}
 use Rattle.replay.proofs.replay_piece.Statement.{statement}
 use Rattle.replay.proofs.replay_piece.Tie as tie
 
@@ -17,7 +17,7 @@ loop-again : tie.Need-loop-preserved invariant-loop decreases-loop
 loop-again c =
     let c3 = c.before.before.before in let c5 = c3.before.before in let c9 = c5.before.before.before.before in
     let told = c5.replay-case.ensures in
-    ends-within (length c9.args.s.now) told.next_is told.whole_is (not_false _ c3.if1.false)
+    ends-within (length c9.args.s.now) told.next_is told.whole_is (not-false _ c3.if1.false)
 
 pub replay-piece-spec : {M : Type 1} → statement M
 replay-piece-spec =

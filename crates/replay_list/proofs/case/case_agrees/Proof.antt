@@ -3,7 +3,7 @@ use Rattle.replay_list.proofs.Decoded.{agreed}
 use Rattle.replay_list.proofs.Laws.{never}
 use borrow.Author.Rules.{rules}
 use mathlib.Core.Path.{sym, ◌∙◌}
-use borrow.Author.Tests.{not_false}
+use borrow.Author.Tests.{not-false}
 use Rattle.replay_list.proofs.case.case_agrees.Statement.{statement}
 use Rattle.replay_list.proofs.case.case_agrees.Tie as tie
 
@@ -18,7 +18,7 @@ returns-2 c =
     λ e.
     agreed _ _ _ _ _ _ _ _ c11.job-at.ensures c16.requires.1.0 c16.requires.0 (rw c10.length_at.ensures at c9.records-at.ensures) c13.read-floats.ensures c12.read-numbers.ensures
     c16.requires.1.1.0 c16.requires.1.1.1
-    (sym c6.size.ensures ∙ c4.same_answer.ensures (not_false _ c3.if1.false) ∙ c5.sizing-at.ensures) (c.assembly-agrees.ensures e)
+    (sym c6.size.ensures ∙ c4.same_answer.ensures (not-false _ c3.if1.false) ∙ c5.sizing-at.ensures) (c.assembly-agrees.ensures e)
 
 pub case-agrees-spec : {M : Type 1} → statement M
 case-agrees-spec =

@@ -3,7 +3,7 @@ use mathlib.Core.Path.{◌≡◌}
 use Rattle.replay_list.specs.Format.{case_end}
 use Rattle.replay_list.proofs.Decoded.{end_of, cut_off, at_hand}
 use Rattle.replay_list.proofs.Laws.{never}
-use borrow.Author.Tests.{not_false}
+use borrow.Author.Tests.{not-false}
 use Rattle.replay_list.proofs.case.replay_case.Statement.{statement}
 use Rattle.replay_list.proofs.case.replay_case.Tie as tie
 
@@ -33,7 +33,7 @@ case-agrees-requires : tie.Need-case-agrees-requires
 case-agrees-requires c κs =
     let c1 = c.before in let c2 = c1.before in let c5 = c2.before.before.before in
     let read = c5 in
-    (read.before.before.before.before.before.before.starts-at.ensures, (read.before.before.before.before.places-at.ensures, c2.fits2.ensures (not_false _ c1.if2.false)))
+    (read.before.before.before.before.before.before.starts-at.ensures, (read.before.before.before.before.places-at.ensures, c2.fits2.ensures (not-false _ c1.if2.false)))
 
 returns-3 : tie.Need-returns-3
 returns-3 c =

@@ -5,7 +5,7 @@ use native.Mathlib.Omega.{arith}
 use lib.ListN.{get_or}
 use lib.Ieee.{binary64, to_bits, nan}
 use borrow.Author.Count.{below_none, below_more}
-use borrow.Author.Tests.{not_false}
+use borrow.Author.Tests.{not-false}
 use borrow.Author.Rules.{rules}
 use Rattle.replay_list.specs.File.{expected_bits}
 use Rattle.replay_list.proofs.Laws.{never}
@@ -22,7 +22,7 @@ loop-again : tie.Need-loop-preserved invariant-loop decreases-loop
 loop-again c =
     let c1 = c.before in let c2 = c1.before in let c5 = c2.before.before.before in
     below_more _ _ c5.loop.invariant
-    ((c1.has-bits.ensures (not_false _ c.if1.false)).1 ∙ c2.expected-bits.ensures)
+    ((c1.has-bits.ensures (not-false _ c.if1.false)).1 ∙ c2.expected-bits.ensures)
 
 returns-2 : tie.Need-returns-2 invariant-loop decreases-loop
 returns-2 c = λ e k h. c.before.loop.invariant k (omega arith)
