@@ -1,5 +1,7 @@
 // Acceleration and jerk rows.
 
+#![tactic(auto)]
+
 ghost use Rattle.std.specs.Prelude.{◌≡◌, [], ◌∷◌, ◌+◌, ◌-◌, ◌*◌, ◌^◌, ◌<◌, ◌≤◌, ltb, length, get_or, take};
 ghost use Rattle.model.specs.Refusals.{most_rows};
 ghost use Rattle.model.specs.Lent.{at_entry};
@@ -96,7 +98,7 @@ pub fn clarabel_2order_constraint_topp3(
 }
 
 // Which number of a jerk row.
-#[derive(Drop)]
+#[derive(Clone, Copy)]
 pub enum Form {
     Back,
     Here,
@@ -116,7 +118,7 @@ fn jerk_value(form: Form, b: f64, c: f64, r: f64) -> f64
 }
 
 // A part of the tables.
-#[derive(Drop)]
+#[derive(Clone, Copy)]
 pub struct Part {
     pub from: usize,
     pub count: usize,
@@ -157,7 +159,7 @@ fn column_jerk(
 }
 
 // The columns of a group, and the forms of the second and the third.
-#[derive(Drop)]
+#[derive(Clone, Copy)]
 pub struct Three {
     pub first: Column,
     pub second: Column,

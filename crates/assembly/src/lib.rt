@@ -1,5 +1,7 @@
 // The assembly: checks, room, a test of every number, then the writing.
 
+#![tactic(auto)]
+
 ghost use Rattle.std.specs.Prelude.{◌≡◌, not, ◌≤◌, ltb};
 ghost use Rattle.model.specs.Refusals.{most_objectives};
 ghost use Rattle.model.specs.Verdicts.{◌then◌, refuse};

@@ -1,5 +1,7 @@
 // The two halves of the assembly: the a and b columns with the standard rows, and what has columns of its own.
 
+#![tactic(auto)]
+
 ghost use Rattle.std.specs.Prelude.{◌≡◌, ℕ, ◌^◌, ◌<◌, ◌≤◌, length, get_or, take};
 ghost use Rattle.std.specs.Float.{nan};
 ghost use Rattle.model.specs.Refusals.{most_objectives};

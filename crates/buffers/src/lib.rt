@@ -1,5 +1,7 @@
 // The writers that every stage uses: entries, rows, cones and cost, at the tally's places. A store past a buffer's end is left out.
 
+#![tactic(auto)]
+
 ghost use Rattle.std.specs.Prelude.{◌≡◌, true, false, [], ◌∷◌, ◌+◌, ◌-◌, ◌*◌, ◌^◌, ◌<◌, ◌≤◌, min, length, set};
 ghost use Rattle.std.proofs.lemmas.List.Edits.{sets};
 ghost use Rattle.model.specs.Lent.{at_entry, at_exit};

@@ -1,4 +1,6 @@
 // Refusals 1 to 18. Each check answers what its definition says; `check` answers the first refusal of a whole problem.
+#![tactic(auto)]
+
 ghost use Rattle.std.specs.Prelude.{◌≡◌, not, ◌+◌, ◌-◌, ◌*◌, ◌≤◌, ◌<◌, max, ltb, leb, length, take, get_or};
 ghost use Rattle.std.specs.Float.Ieee.{lt};
 ghost use Rattle.model.specs.Numbers.{at, finite, unusable, unfit};
@@ -296,7 +298,7 @@ fn check_setup(
 }
 
 // The kinds on which it depends whether tables 10 to 15 count.
-#[derive(Drop)]
+#[derive(Clone, Copy)]
 struct Kinds {
     thermal: bool,
     torque: bool,

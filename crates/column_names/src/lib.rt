@@ -1,4 +1,6 @@
 // The names of columns, and who owns a row, in words.
+#![tactic(auto)]
+
 ghost use Rattle.std.specs.Prelude.{◌≡◌, cond, ◌≤◌, eqb};
 ghost use Rattle.model.specs.Lent.{at_entry};
 ghost use Rattle.text.specs.Text.{says};

@@ -1,5 +1,7 @@
 // The numbers of the a, b and xi columns, and how many xi there are.
 
+#![tactic(auto)]
+
 ghost use Rattle.std.specs.Prelude.{◌≡◌, [], ◌<◌, ◌≤◌, length};
 ghost use Rattle.model.specs.Refusals.{most_stations};
 ghost use Rattle.model.specs.Lent.{at_entry};

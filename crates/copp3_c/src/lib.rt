@@ -1,5 +1,7 @@
 // Sizing, the assembly and the owners of rows and columns for C and Rust. Objectives come as plain records with a kind; include/copp3_assembly.h is the same for C.
 
+#![tactic(auto)]
+
 ghost use Rattle.std.specs.Prelude.{◌≡◌, map, ℕ, min, ◌+◌, ◌^◌, ◌<◌};
 ghost use Rattle.copp3_c.specs.Exported.{objective_of, objectives_of, kind_refusal, answer_record, owner_record, sized_as, exported, assembled_as};
 ghost use Rattle.model.specs.Answers.{told};
@@ -12,7 +14,7 @@ use model::{Answer, Column, Job, Objective, OwnerAnswer, Row, Verdict};
 
 // kind: 0 Time, 1 ThermalEnergy, 2 TotalVariationTorque, 3 Linear. The parts (start, length) of the pool: scales, or alpha and then beta.
 #[repr(C)]
-#[derive(Drop)]
+#[derive(Clone, Copy)]
 pub struct ObjectiveRecord {
     pub kind: u64,
     pub weight: f64,
@@ -23,14 +25,14 @@ pub struct ObjectiveRecord {
 }
 
 #[repr(C)]
-#[derive(Drop)]
+#[derive(Clone, Copy)]
 pub struct ObjectiveRecords {
     pub items: [ObjectiveRecord; 16],
 }
 
 // number 0: accepted, with the four counts; else a refusal's number and place.
 #[repr(C)]
-#[derive(Drop)]
+#[derive(Clone, Copy)]
 pub struct AnswerRecord {
     pub number: usize,
     pub place: usize,
@@ -42,7 +44,7 @@ pub struct AnswerRecord {
 
 // number 0: the owner, 0 standard rows, 1 root stage, 2 + i objective i; else a refusal's number and place.
 #[repr(C)]
-#[derive(Drop)]
+#[derive(Clone, Copy)]
 pub struct OwnerRecord {
     pub number: usize,
     pub place: usize,

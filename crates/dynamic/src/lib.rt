@@ -1,5 +1,7 @@
 // Boundary and dynamic rows.
 
+#![tactic(auto)]
+
 ghost use Rattle.std.specs.Prelude.{[], ◌∷◌, ◌+◌, ◌-◌, ◌*◌, ◌<◌, ltb, length};
 ghost use Rattle.model.specs.Lent.{at_entry};
 ghost use Rattle.model.specs.Lists.{given};

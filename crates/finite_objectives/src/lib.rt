@@ -1,5 +1,7 @@
 // Refusal 20 of the objectives, told from their tables, and of what Linear adds to the cost of the a and b columns. Nothing is written.
 
+#![tactic(auto)]
+
 ghost use Rattle.std.specs.Prelude.{◌≡◌, true, ℕ, ◌+◌, ◌-◌, ◌*◌, ◌<◌, ◌≤◌, ltb, length, get_or, take};
 ghost use Rattle.std.specs.Float.{nan};
 ghost use Rattle.model.specs.Refusals.{most_stations, most_objectives};

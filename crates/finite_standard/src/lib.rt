@@ -1,5 +1,7 @@
 // Refusal 20 of the standard rows, told from grid, bounds and tables: each number that would be written is looked at, and nothing is written.
 
+#![tactic(auto)]
+
 ghost use Rattle.std.specs.Prelude.{◌≡◌, true, ◌&&◌, ◌+◌, ◌-◌, ◌*◌, ◌<◌, ◌≤◌, ltb, length, get_or, take};
 ghost use Rattle.model.specs.Lent.{at_entry};
 ghost use Rattle.model.specs.Numbers.{finite, at, ◌⊗◌, ◌⊖◌, −1½};

@@ -1,5 +1,7 @@
 // Whether several numbers are all finite. specs/ says it of bands, cones and blocks, proofs/ has the laws by which scans compose.
 
+#![tactic(auto)]
+
 ghost use Rattle.std.specs.Prelude.{◌≡◌, ◌&&◌};
 ghost use Rattle.model.specs.Numbers.{finite};
 

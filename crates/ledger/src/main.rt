@@ -1,4 +1,6 @@
 // Document 01's ledger: fourteen cases, a line for each, with what sizing answers.
+#![tactic(auto)]
+
 use model::Answer;
 
 fn number(k: usize) {

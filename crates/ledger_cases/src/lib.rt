@@ -1,4 +1,6 @@
 // Document 01's ledger: the letter and the answer of each of its fourteen cases, by the case's number.
+#![tactic(auto)]
+
 ghost use Rattle.std.specs.Prelude.{◌≡◌, length, take};
 ghost use Rattle.model.specs.Numbers.{+1};
 ghost use Rattle.model.specs.declared.Objective.TheVariants.{ThermalEnergy, TotalVariationTorque, Linear};
@@ -10,7 +12,7 @@ ghost use Rattle.ledger_cases.specs.Cases.{problem_of, Small, problem_at, letter
 use model::{Answer, Boundary, Bounds, Ends, Job, Objective};
 
 // What a case may change. Its grid and amax are the first `stations` numbers of theirs; its objectives are `count` equal ones; it has `jerk` rows per station.
-#[derive(Drop)]
+#[derive(Clone, Copy)]
 struct Case {
     a0: f64,
     stations: usize,

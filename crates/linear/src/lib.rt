@@ -1,5 +1,7 @@
 // Linear: what it adds to the cost of the a and b columns. Each column's cost is told on its own.
 
+#![tactic(auto)]
+
 ghost use Rattle.std.specs.Prelude.{◌≡◌, false, cond, ℕ, ◌+◌, ◌-◌, ◌*◌, ◌^◌, ◌<◌, ◌≤◌, max, length, get_or, take};
 ghost use Rattle.std.specs.Float.{nan};
 ghost use Rattle.model.specs.Refusals.{most_objectives};
@@ -252,7 +254,7 @@ fn charged_costs(
 }
 
 // What column_cost needs of an objective; only a Linear counts.
-#[derive(Drop)]
+#[derive(Clone, Copy)]
 struct Gathered {
     pub weight: f64,
     pub alpha: usize,
@@ -310,7 +312,7 @@ fn after(k: usize, counts: bool) -> usize
 }
 
 // The Linear objectives among those that count, in order: their weights and the places of their lists.
-#[derive(Drop)]
+#[derive(Clone, Copy)]
 pub struct LinearParts {
     pub weights: [f64; 16],
     pub alphas: [usize; 16],

@@ -1,4 +1,6 @@
 // An assembled problem as text, for a person: docs/LISTING.md. Every writer takes the buffer and the place of its first byte, and answers the place after its last.
+#![tactic(auto)]
+
 mod cones;
 mod pattern;
 mod rows;

@@ -209,9 +209,9 @@ module _ (p : Problem) where
     objectives_uncharged : (c : ℕ) (os : List Objective) → some is_linear os ≡ false → all_charges (objective_blocks p c os) ≡ []
     unfolding objective_blocks objective_block time_block thermal_block torque_block
     objectives_uncharged c [] e = refl
-    objectives_uncharged c (Time w ∷ os) e = objectives_uncharged _ os e
-    objectives_uncharged c (ThermalEnergy w start len ∷ os) e = objectives_uncharged _ os e
-    objectives_uncharged c (TotalVariationTorque w start len ∷ os) e = objectives_uncharged _ os e
+    objectives_uncharged c (Time w ∷ os) e = objectives_uncharged (c + width (objective_block p c (Time w))) os e
+    objectives_uncharged c (ThermalEnergy w start len ∷ os) e = objectives_uncharged (c + width (objective_block p c (ThermalEnergy w start len))) os e
+    objectives_uncharged c (TotalVariationTorque w start len ∷ os) e = objectives_uncharged (c + width (objective_block p c (TotalVariationTorque w start len))) os e
     objectives_uncharged c (Linear w a al b bl ∷ os) e = absurd (false≢true (sym e))
 
     blocks_uncharged : some is_linear (objectives p) ≡ false → all_charges (blocks p) ≡ []

@@ -11,6 +11,7 @@ use Rattle.model.specs.Lists.{joined, sum}
 use Rattle.model.specs.Problem.{Problem, objectives, n}
 use Rattle.model.specs.Program.{Block}
 use Rattle.model.specs.Standard.{root}
+use Rattle.model.specs.Objectives.{objective_block}
 use Rattle.model.specs.Assembled.{width, blocks, objective_blocks, cones, bands, entries, right_side, cost}
 use Rattle.model.specs.Counts.{four_counts, ◌plus◌}
 use Rattle.model.specs.Owners.{block_bands, size_of, Owner, owners_from, tally_start, owners, eight, index, index_places}
@@ -101,7 +102,7 @@ module _ (p : Problem) where
   pub objectives_blocks : (c : ℕ) (os : List Objective) → length (objective_blocks p c os) ≡ length os
   unfolding objective_blocks
   objectives_blocks c [] = refl
-  objectives_blocks c (o ∷ os) = ap suc (objectives_blocks _ os)
+  objectives_blocks c (o ∷ os) = ap suc (objectives_blocks (c + width (objective_block p c o)) os)
 
   -- "there are two owners more than objectives"
   pub blocks_number : length (blocks p) ≡ 2 + length (objectives p)

@@ -78,7 +78,7 @@ set_same q q' c k v v' long e h = go (ℕ_discrete k c) (dec_lt c (length q))
 outside_charged : (lo len : ℕ) (q q' : List Float) (cs : List Cell) → Outside lo len q q' → Outside lo len (charged q cs) (charged q' cs)
 outside_charged lo len q q' [] o = o
 outside_charged lo len q q' (c ∷ cs) o =
-    outside_charged lo len _ _ cs record {
+    outside_charged lo len (set q c.column (at q c.column ⊕ c.value)) (set q' c.column (at q' c.column ⊕ c.value)) cs record {
       long = length-set q' c.column _ ∙ o.long ∙ sym (length-set q c.column _);
       same = λ k out. set_same q q' c.column k _ _ o.long (λ e. ap (λ (x : Float). x ⊕ c.value) (o.same c.column (rw e at out))) (o.same k out);
     }
@@ -99,7 +99,7 @@ outside_more lo len q q' r o =
 
 outside_after : (lo len : ℕ) (q q' : List Float) (bs : List Block) → Outside lo len q q' → Outside lo len (cost_after q bs) (cost_after q' bs)
 outside_after lo len q q' [] o = o
-outside_after lo len q q' (b ∷ bs) o = outside_after lo len _ _ bs (outside_more lo len _ _ b.cost (outside_charged lo len q q' b.charges o))
+outside_after lo len q q' (b ∷ bs) o = outside_after lo len (charged q b.charges ++ b.cost) (charged q' b.charges ++ b.cost) bs (outside_more lo len _ _ b.cost (outside_charged lo len q q' b.charges o))
 
 -- new columns alone differ
 outside_new : (q r r' : List Float) → length r' ≡ length r → Outside (length q) (length r) (q ++ r) (q ++ r')
@@ -141,7 +141,7 @@ module _ (p : Problem) (i₀ : ℕ) (w : Float) where
   blocks_same : (c : ℕ) (os : List Objective) → objective_blocks (reweighed p i₀ w) c os ≡ objective_blocks p c os
   unfolding objective_blocks
   blocks_same c [] = refl
-  blocks_same c (o ∷ os) = ap₂ ◌∷◌ (block_same c o) (blocks_same _ os ∙ ap (λ (b : Block). objective_blocks p (c + width b) os) (block_same c o))
+  blocks_same c (o ∷ os) = ap₂ ◌∷◌ (block_same c o) (blocks_same (c + width (objective_block (reweighed p i₀ w) c o)) os ∙ ap (λ (b : Block). objective_blocks p (c + width b) os) (block_same c o))
 
   block_alike : (c : ℕ) (o : Objective) → is_linear o ≡ false → Alike (objective_block p c o) (objective_block (reweighed p i₀ w) c (with_weight w o))
   unfolding objective_block reweighed time_block thermal_block torque_block

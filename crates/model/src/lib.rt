@@ -1,8 +1,10 @@
 // The declared types, in the forms that document 01 names. The definitions of specs/ speak of them.
 
+#![tactic(auto)]
+
 // Boundary states, in the order of refusal 1: initial a, terminal a, initial b, terminal b.
 #[repr(C)]
-#[derive(Drop)]
+#[derive(Clone, Copy)]
 pub struct Boundary {
     pub a0: f64,
     pub a1: f64,
@@ -12,7 +14,7 @@ pub struct Boundary {
 
 // The bounds of a stationary end.
 #[repr(C)]
-#[derive(Drop)]
+#[derive(Clone, Copy)]
 pub struct Bounds {
     pub maximum: f64,
     pub minimum: f64,
@@ -20,14 +22,14 @@ pub struct Bounds {
 
 // The stationary counts N0 and N1.
 #[repr(C)]
-#[derive(Drop)]
+#[derive(Clone, Copy)]
 pub struct Ends {
     pub n0: usize,
     pub n1: usize,
 }
 
 // An objective: its weight, and the parts (start, length) of the pool that hold its lists.
-#[derive(Drop)]
+#[derive(Clone, Copy)]
 pub enum Objective {
     Time(f64),
     ThermalEnergy {
@@ -51,7 +53,7 @@ pub enum Objective {
 
 // What a job says beside its lists: boundary states, stationary bounds and counts, the dimension d, how many of the 16 objectives count.
 #[repr(C)]
-#[derive(Drop)]
+#[derive(Clone, Copy)]
 pub struct Job {
     pub boundary: Boundary,
     pub start: Bounds,
@@ -62,25 +64,25 @@ pub struct Job {
 }
 
 // A row number and a column number, each of its own sort until it is stored.
-#[derive(Drop)]
+#[derive(Clone, Copy)]
 pub struct Row {
     pub at: usize,
 }
 
-#[derive(Drop)]
+#[derive(Clone, Copy)]
 pub struct Column {
     pub at: usize,
 }
 
 // A value at a column of some row.
-#[derive(Drop)]
+#[derive(Clone, Copy)]
 pub struct Term {
     pub col: Column,
     pub v: f64,
 }
 
 // The running tally: entries, rows, cones and columns written so far, and the owner being written (its place in the order of the index).
-#[derive(Drop)]
+#[derive(Clone, Copy)]
 pub struct Tally {
     pub entries: usize,
     pub rows: Row,
@@ -90,7 +92,7 @@ pub struct Tally {
 }
 
 // The four counts that sizing answers.
-#[derive(Drop)]
+#[derive(Clone, Copy)]
 pub struct FourCounts {
     pub entries: usize,
     pub rows: usize,
@@ -99,14 +101,14 @@ pub struct FourCounts {
 }
 
 // What a check finds: nothing to refuse, or a refusal's number and place.
-#[derive(Drop)]
+#[derive(Clone, Copy)]
 pub enum Verdict {
     Accepted,
     Refused { number: usize, place: usize },
 }
 
 // What sizing and the assembly answer.
-#[derive(Drop)]
+#[derive(Clone, Copy)]
 pub enum Answer {
     Refusal {
         number: usize,
@@ -121,7 +123,7 @@ pub enum Answer {
 }
 
 // Who owns a row or a column, in the order of the index; or refusal 28 or 29.
-#[derive(Drop)]
+#[derive(Clone, Copy)]
 pub enum OwnerAnswer {
     StandardRows,
     RootStage,

@@ -1,5 +1,7 @@
 // Tests and small functions on numbers.
 
+#![tactic(auto)]
+
 ghost use Rattle.std.specs.Prelude.{◌≡◌, ◌&&◌, min, max};
 ghost use Rattle.model.specs.Numbers.{finite};
 

@@ -1,5 +1,7 @@
 // Which kinds of objectives a job has.
 
+#![tactic(auto)]
+
 ghost use Rattle.std.specs.Prelude.{◌≡◌, ◌≤◌, take};
 ghost use Rattle.model.specs.Refusals.{most_objectives};
 ghost use Rattle.model.specs.Problem.{some, uses_root, is_thermal, is_torque, is_linear};

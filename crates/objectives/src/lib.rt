@@ -1,5 +1,7 @@
 // The objectives, one after another, each with columns of its own.
 
+#![tactic(auto)]
+
 ghost use Rattle.std.specs.Prelude.{◌+◌, ◌^◌, ◌<◌, ◌≤◌, get_or, take};
 ghost use Rattle.std.specs.Float.{nan};
 ghost use Rattle.model.specs.Refusals.{most_objectives};

@@ -1,5 +1,7 @@
 // Who owns a row or a column, by any index with a number of objectives.
 
+#![tactic(auto)]
+
 ghost use Rattle.std.specs.Prelude.{◌≡◌, ◌+◌, ◌*◌, ◌<◌, length};
 ghost use Rattle.model.specs.Lent.{at_entry};
 ghost use Rattle.model.specs.OwnerAnswers;

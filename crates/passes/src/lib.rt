@@ -1,5 +1,7 @@
 // The two passes over an accepted problem: every number is tested, told from the tables; then the program is written.
 
+#![tactic(auto)]
+
 ghost use Rattle.std.specs.Prelude.{◌≡◌};
 ghost use Rattle.model.specs.Refusals.{refusal};
 ghost use Rattle.model.specs.Answers.{every_finite};

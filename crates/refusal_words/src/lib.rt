@@ -1,4 +1,6 @@
 // A refused problem in words, and who is to look where.
+#![tactic(auto)]
+
 ghost use Rattle.std.specs.Prelude.{◌++◌};
 ghost use Rattle.model.specs.Lent.{at_entry};
 ghost use Rattle.text.specs.Text.{says};

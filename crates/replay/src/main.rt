@@ -2,11 +2,13 @@
 // line: the group's letter, the number of cases, and in how many of them sizing and the assembly do
 // as the list says. A case that the input's end cuts off, or that is longer than a piece, ends the
 // run with `cut off`.
+#![tactic(auto)]
+
 ghost use Rattle.std.specs.Prelude.{◌≡◌, ◌-◌, ◌≤◌, length, take, drop};
 ghost use Rattle.model.specs.Lent.{at_entry, at_exit};
 
 // The group that is being counted.
-#[derive(Drop)]
+#[derive(Clone, Copy)]
 struct Tally {
     group: u8,
     cases: u64,
@@ -15,7 +17,7 @@ struct Tally {
 
 // The tally after a piece of the list, and the rest of the piece, a case that is not whole: where it
 // begins, or once it is moved to the front how long it is.
-#[derive(Drop)]
+#[derive(Clone, Copy)]
 struct Piece {
     tally: Tally,
     rest: usize,

@@ -17,7 +17,7 @@ use model::Job;
 
 // What was found: the case's group, whether it is whole, which is that all its bytes are at hand,
 // whether all agrees, and where the next case begins.
-#[derive(Drop)]
+#[derive(Clone, Copy)]
 pub struct Replayed {
     pub group: u8,
     pub whole: bool,
@@ -26,7 +26,7 @@ pub struct Replayed {
 }
 
 // Where what the buffers hold begins, after the rows, and where it ends.
-#[derive(Drop)]
+#[derive(Clone, Copy)]
 struct Held {
     columns: usize,
     values: usize,

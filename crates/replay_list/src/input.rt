@@ -11,7 +11,7 @@ use model::{Boundary, Bounds, Ends, Job};
 // Where the parts of a case begin: the grid, tables 0 and 1, the grid as if the other tables came
 // right after it, the records, the buffers' lengths, the answers, and what the buffers hold. Table 0
 // ends at `split` among the numbers of tables 0 and 1, and table 1 at `end`.
-#[derive(Drop)]
+#[derive(Clone, Copy)]
 pub struct Places {
     pub grid: usize,
     pub numbers: usize,

@@ -4,6 +4,8 @@
 // No public function has a `requires`. A case that is not whole, or that is larger than the arrays
 // here, does not agree; nothing is read past the end of what is at hand. Where the next case begins
 // follows from the list's own numbers and never from what sizing or the assembly answered.
+#![tactic(auto)]
+
 mod case;
 mod compare;
 mod file;

@@ -1,4 +1,6 @@
 // Assembles three problems and prints each for a person, as docs/LISTING.md has it.
+#![tactic(auto)]
+
 ghost use Rattle.io.specs.Counts.{IsPrefixLen};
 ghost use Rattle.model.specs.Lent.{at_entry, at_exit};
 ghost use Rattle.show.specs.Shown.{Shown};

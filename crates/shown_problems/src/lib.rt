@@ -1,4 +1,6 @@
 // The problems that the program `show` assembles, by their numbers: 0 is document 01's case A, 1 has all four objectives, 2 and any other is case L.
+#![tactic(auto)]
+
 ghost use Rattle.std.specs.Prelude.{◌≡◌};
 ghost use Rattle.model.specs.Answers.{answered, assembly};
 ghost use Rattle.model.specs.Lent.{buffers_before, buffers_after};

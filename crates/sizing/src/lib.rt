@@ -1,4 +1,6 @@
 // Sizing: every refusal tested before 19, or the four counts by document 01's formulas. And the room test, refusal 19.
+#![tactic(auto)]
+
 ghost use Rattle.std.specs.Prelude.{◌≡◌, List, ◌+◌, ◌-◌, ◌*◌, ◌≤◌, ◌<◌, ltb, length, take, get_or, Float};
 ghost use Rattle.model.specs.Refusals.{most_stations, most_joints, most_objectives};
 ghost use Rattle.model.specs.Numbers.{at};
@@ -17,7 +19,7 @@ use numbers::{flag, is_finite, larger};
 use objective_kinds::has_root;
 
 // The numbers of which the counts are made: d, n, m, p, L, u, A' and J'.
-#[derive(Drop)]
+#[derive(Clone, Copy)]
 pub struct Measures {
     pub d: usize,
     pub n: usize,
@@ -30,7 +32,7 @@ pub struct Measures {
 }
 
 // Sums over the stations between the ends: finite upper bounds, acceleration rows, jerk rows.
-#[derive(Drop)]
+#[derive(Clone, Copy)]
 struct Inside {
     uppers: usize,
     acc: usize,

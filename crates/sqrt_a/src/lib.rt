@@ -1,5 +1,7 @@
 // The root stage, once if any objective uses it: rows that say that no xi is negative, and a second-order cone for each xi.
 
+#![tactic(auto)]
+
 ghost use Rattle.std.specs.Prelude.{cond, [], ◌∷◌, ◌+◌, ◌*◌, ◌<◌, ◌≤◌, max, length, take};
 ghost use Rattle.model.specs.Refusals.{most_objectives};
 ghost use Rattle.model.specs.Lent.{at_entry};

@@ -1,5 +1,7 @@
 // Each stage is lent the running tally and moves it forward. The work is done by the by-value function of the same name; a caller with the tally by value uses the second form.
 
+#![tactic(auto)]
+
 ghost use Rattle.std.specs.Prelude.{◌*◌, ◌+◌, ◌<◌, ◌^◌, ◌≤◌, ℕ, get_or, length, take, cond, ◌≡◌};
 ghost use Rattle.model.specs.Refusals.{most_objectives};
 ghost use Rattle.acc_jerk.specs.Tables.{AccSized, Few, JerkSized, acc_of, jerk_of};

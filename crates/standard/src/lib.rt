@@ -1,5 +1,7 @@
 // The standard rows, in two cones.
 
+#![tactic(auto)]
+
 ghost use Rattle.std.specs.Prelude.{◌≡◌, ◌-◌, length};
 ghost use Rattle.model.specs.Lent.{at_entry};
 ghost use Rattle.model.specs.Standard.{inequalities};

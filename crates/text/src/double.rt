@@ -6,7 +6,7 @@ ghost use Rattle.text.specs.Number.{minus as NumberÂ·minus, magnitude as NumberÂ
 use crate::{decimal, digits, put, words};
 
 // How many ten-thousandths a double is nearest to.
-#[derive(Drop)]
+#[derive(Clone, Copy)]
 pub enum Multiple {
     TenThousandths(u64),
     None,

@@ -1,5 +1,7 @@
 // Text in a lent buffer of bytes: words, whole numbers, doubles. A writer takes the buffer and the place of its first byte, and answers the place
 // after its last. What the buffer has no room for is left out.
+#![tactic(auto)]
+
 mod double;
 
 ghost use Rattle.std.specs.Prelude.{◌≡◌, ◌+◌, ◌<◌, ◌≤◌, [], ◌∷◌};

@@ -1,5 +1,7 @@
 // ThermalEnergy: a second-order cone for each positive end and for each xi, and the costs of their own columns.
 
+#![tactic(auto)]
+
 ghost use Rattle.std.specs.Prelude.{◌≡◌, [], ◌∷◌, ◌++◌, ◌+◌, ◌-◌, ◌*◌, ◌^◌, ◌<◌, ◌≤◌, ltb, length};
 ghost use Rattle.std.specs.Float.Ieee.{neg};
 ghost use Rattle.model.specs.Refusals.{most_stations, most_joints};

@@ -1,5 +1,7 @@
 // Time: rows that say that no own column is negative, a second-order cone for each xi, and the weights as costs.
 
+#![tactic(auto)]
+
 ghost use Rattle.std.specs.Prelude.{◌≡◌, [], ◌∷◌, ◌+◌, ◌*◌, ◌^◌, ◌<◌, ◌≤◌, length};
 ghost use Rattle.model.specs.Lent.{at_entry};
 ghost use Rattle.model.specs.Numbers.{at, ◌⊗◌};

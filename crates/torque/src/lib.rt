@@ -1,5 +1,7 @@
 // What both torque objectives read: the torque coefficients, scaled.
 
+#![tactic(auto)]
+
 ghost use Rattle.std.specs.Prelude.{◌≡◌, ◌+◌, ◌*◌, ◌<◌, length};
 ghost use Rattle.model.specs.Lent.{at_entry};
 ghost use Rattle.model.specs.Numbers.{at, ◌⊗◌};

@@ -1,5 +1,7 @@
 // TotalVariationTorque: for each joint two rows at a positive end, and two for each step between moving stations.
 
+#![tactic(auto)]
+
 ghost use Rattle.std.specs.Prelude.{◌+◌, ◌-◌, ◌*◌, ◌^◌, ◌<◌, ◌≤◌, ltb, length};
 ghost use Rattle.model.specs.Refusals.{most_stations, most_joints};
 ghost use Rattle.model.specs.Lent.{at_entry};
@@ -161,7 +163,7 @@ fn end_part(
 }
 
 // The numbers of a step's row, on a and b of both stations.
-#[derive(Drop)]
+#[derive(Clone, Copy)]
 struct Four {
     a: f64,
     a1: f64,
