@@ -5,7 +5,7 @@
 #![tactic(auto)]
 
 ghost use Rattle.std.specs.Prelude.{◌≡◌, ◌-◌, ◌≤◌, length, take, drop};
-ghost use Rattle.model.specs.Lent.{at_entry, at_exit};
+ghost use Rattle.model.specs.Lent.{at_entry};
 
 // The group that is being counted.
 #[derive(Clone, Copy)]
@@ -61,6 +61,7 @@ fn counted(tally: Tally, agrees: bool) -> Tally {
 
 // Replays the whole cases of a piece.
 fn replay_piece(s: &[u8], before: Tally) -> Piece
+    ensures { result.rest ≤ length (at_entry s) }) -> Piece
     ensures { result.rest ≤ length (at_entry s) }
 {
     let mut tally = before;
@@ -83,7 +84,7 @@ fn replay_piece(s: &[u8], before: Tally) -> Piece
 // Moves what stands from `from` on to the front.
 fn move_to_front(s: &mut [u8], from: usize)
     requires { from ≤ length s.old }
-    ensures { take (length (at_entry s) - from) (at_exit s) ≡ drop from (at_entry s) }
+    ensures { take (length s.old - from) s.new ≡ drop from s.old }
 {
     let n = s.len() - from;
     let mut i: usize = 0;
@@ -105,8 +106,8 @@ fn print_end(tally: Tally, held: usize) {
 // Reads on behind the `held` bytes at hand, and answers where what is at hand then ends.
 fn read_on(list: &mut [u8], held: usize) -> usize
     requires { held ≤ length list.old }
-    ensures lower_bound { (held ≤ result) × (result ≤ length (at_exit list)) }
-    ensures list_value { take held (at_exit list) ≡ take held (at_entry list) }
+    ensures lower_bound { (held ≤ result) × (result ≤ length list.new) }
+    ensures list_value { take held list.new ≡ take held list.old }
 {
     let n = io::read_full(0, &mut list[held..]);
     held + n
@@ -116,7 +117,7 @@ fn read_on(list: &mut [u8], held: usize) -> usize
 fn replay_held(list: &mut [u8], end: usize, tally: Tally) -> Piece
     requires { end ≤ length list.old }
     ensures rest_le_end { result.rest ≤ end }
-    ensures list_value { take result.rest (at_exit list) ≡ drop (end - result.rest) (take end (at_entry list)) }
+    ensures list_value { take result.rest list.new ≡ drop (end - result.rest) (take end list.old) }
 {
     let piece = replay_piece(&list[..end], tally);
     let from = piece.rest;

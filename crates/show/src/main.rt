@@ -2,13 +2,13 @@
 #![tactic(auto)]
 
 ghost use Rattle.io.specs.Counts.{IsPrefixLen};
-ghost use Rattle.model.specs.Lent.{at_entry, at_exit};
+
 ghost use Rattle.show.specs.Shown.{Shown};
 
 // Assembles problem number i and writes its page at the start of `out`.
 fn page_at(i: usize, out: &mut [u8]) -> usize
-    ensures shown { Shown i (at_entry out) (at_exit out) result }
-    ensures prefix_len { IsPrefixLen result (at_exit out) }
+    ensures shown { Shown i out.old out.new result }
+    ensures prefix_len { IsPrefixLen result out.new }
 {
     let mut rows = [0u32; 160];
     let mut columns = [0u32; 160];
