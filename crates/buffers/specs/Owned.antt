@@ -5,7 +5,7 @@ use Rattle.model.specs.Counts.{four_counts}
 use Rattle.model.specs.Owners.{Owner, eight}
 use Rattle.model.specs.declared.FourCounts.{FourCounts}
 use Rattle.model.specs.declared.Tally.{Tally}
-use Rattle.model.specs.Lent.{Lent, at_entry, at_exit}
+use Rattle.model.specs.Lent.{LentMut, mut_at_entry, at_exit}
 
 abbrev pub counts_of : Tally → FourCounts
 counts_of t = four_counts t.entries t.rows.at t.cones t.columns.at
@@ -27,5 +27,5 @@ pub record PutsOwner (t u : Tally) (x : List ℕ) (t' : Tally) (x' : List ℕ) :
   pub says : x' ≡ sets x (8 * t.owner) (eight (owner_between t u))
   pub next : t' ≡ reowned (t.owner + 1) u
 
-abbrev pub puts_owner : Tally → Tally → Lent ℕ → Tally → Type 0
-puts_owner t u x t' = PutsOwner t u (at_entry x) t' (at_exit x)
+abbrev pub puts_owner : Tally → Tally → LentMut ℕ → Tally → Type 0
+puts_owner t u x t' = PutsOwner t u (mut_at_entry x) t' (at_exit x)

@@ -4,7 +4,7 @@
 
 ghost use Rattle.std.specs.Prelude.{◌≡◌, true, false, [], ◌∷◌, ◌+◌, ◌-◌, ◌*◌, ◌^◌, ◌<◌, ◌≤◌, min, length, set};
 ghost use Rattle.std.proofs.lemmas.List.Edits.{sets};
-ghost use Rattle.model.specs.Lent.{at_entry, at_exit};
+ghost use Rattle.model.specs.Lent.{at_entry};
 ghost use Rattle.model.specs.Numbers.{at, ◌⊖◌, ◌⊗◌};
 ghost use Rattle.model.specs.Lists.{list};
 ghost use Rattle.model.specs.Program.{cell, row, entry, positive_row};
@@ -17,14 +17,14 @@ use numbers::flag;
 // Stores a number: the one place that knows its width.
 fn set_number(xs: &mut [u32], at: usize, x: usize)
     requires { (at < length xs.old) × (x < 2 ^ 32) }
-    ensures { at_exit xs ≡ set (at_entry xs) at x }
+    ensures { xs.new ≡ set xs.old at x }
 {
     xs[at] = x as u32;
 }
 
 fn set_float(ys: &mut [f64], at: usize, x: f64)
     requires { at < length ys.old }
-    ensures { at_exit ys ≡ set (at_entry ys) at x }
+    ensures { ys.new ≡ set ys.old at x }
 {
     ys[at] = x;
 }
@@ -32,7 +32,7 @@ fn set_float(ys: &mut [f64], at: usize, x: f64)
 // Stores that an index past the end leaves out, as `set` of a list does.
 fn store(xs: &mut [u32], at: usize, x: usize)
     requires { x < 2 ^ 32 }
-    ensures { at_exit xs ≡ set (at_entry xs) at x }
+    ensures { xs.new ≡ set xs.old at x }
 {
     if at < xs.len() {
         set_number(xs, at, x);
@@ -40,7 +40,7 @@ fn store(xs: &mut [u32], at: usize, x: usize)
 }
 
 fn store_float(ys: &mut [f64], at: usize, x: f64)
-    ensures { at_exit ys ≡ set (at_entry ys) at x }
+    ensures { ys.new ≡ set ys.old at x }
 {
     if at < ys.len() {
         set_float(ys, at, x);
@@ -48,7 +48,7 @@ fn store_float(ys: &mut [f64], at: usize, x: f64)
 }
 
 fn store_byte(zs: &mut [u8], at: usize, x: u8)
-    ensures { at_exit zs ≡ set (at_entry zs) at x }
+    ensures { zs.new ≡ set zs.old at x }
 {
     if at < zs.len() {
         zs[at] = x;
@@ -57,7 +57,7 @@ fn store_byte(zs: &mut [u8], at: usize, x: u8)
 
 // A number of the index.
 fn store_wide(ws: &mut [usize], at: usize, x: usize)
-    ensures { at_exit ws ≡ set (at_entry ws) at x }
+    ensures { ws.new ≡ set ws.old at x }
 {
     if at < ws.len() {
         ws[at] = x;
@@ -67,7 +67,7 @@ fn store_wide(ws: &mut [usize], at: usize, x: usize)
 // Four numbers, one after another.
 fn store_four(ws: &mut [usize], at: usize, a: usize, b: usize, c: usize, d: usize)
     requires { at + 4 < 2 ^ 64 }
-    ensures { at_exit ws ≡ sets (at_entry ws) at (a ∷ b ∷ c ∷ d ∷ []) }
+    ensures { ws.new ≡ sets ws.old at (a ∷ b ∷ c ∷ d ∷ []) }
 {
     store_wide(ws, at, a);
     store_wide(ws, at + 1, b);

@@ -1,9 +1,10 @@
 -- What a function was lent, as the definitions speak of it. An `ensures` has a reference as the pair of its two moments, when the function is entered and
--- when it is left; a `requires` has it as it is on entry.
+-- when it is left; a `requires` has it as it is on entry. A table is lent by `&`, a buffer by `&mut`: a clause of a function calls what a buffer holds then
+-- `x.old` and `x.new`.
 use Rattle.model.specs.Base.{ℕ, List, Float, Job, Objective}
 use Rattle.model.specs.Problem.{Problem, problem}
 use Rattle.model.specs.Answers.{Buffers, buffers}
-use Rattle.std.specs.Borrow.{Bor}
+use Rattle.std.specs.Borrow.{Bor, MutBor}
 use denote.Triple.Both.{Both}
 
 -- a lent slice in a `requires`, and in an `ensures`
@@ -13,11 +14,18 @@ Slice A = Bor (List A)
 abbrev pub Lent : Type 0 → Type 0
 Lent A = Both (Slice A) (Slice A)
 
--- what a reference holds on entry, and what it holds on exit
+abbrev pub LentMut : Type 0 → Type 0
+LentMut A = Both (MutBor (List A)) (MutBor (List A))
+
+-- what a reference holds on entry
 abbrev pub at_entry : {A : Type 0} → Both (Bor A) (Bor A) → A
 at_entry x = x.entry.now
 
-abbrev pub at_exit : {A : Type 0} → Both (Bor A) (Bor A) → A
+-- what a `&mut` holds on entry, and what it holds on exit
+abbrev pub mut_at_entry : {A : Type 0} → Both (MutBor A) (MutBor A) → A
+mut_at_entry x = x.entry.now
+
+abbrev pub at_exit : {A : Type 0} → Both (MutBor A) (MutBor A) → A
 at_exit x = x.exit.now
 
 -- the problem that was lent: the job, the 16 objectives, and what the grid, tables 0 to 15 and the pool hold on entry
@@ -33,10 +41,10 @@ held job slots grid t0 t1 t2 t3 t4 t5 t6 t7 t8 t9 t10 t11 t12 t13 t14 t15 pool =
     t7.now t8.now t9.now t10.now t11.now t12.now t13.now t14.now t15.now pool.now
 
 -- what buffers 0 to 6 and the index hold on entry, and what they hold on exit
-abbrev pub buffers_before : Lent ℕ → Lent ℕ → Lent Float → Lent Float → Lent ℕ → Lent ℕ → Lent Float → Lent ℕ → Buffers
+abbrev pub buffers_before : LentMut ℕ → LentMut ℕ → LentMut Float → LentMut Float → LentMut ℕ → LentMut ℕ → LentMut Float → LentMut ℕ → Buffers
 buffers_before rows columns values right kinds dimensions cost index =
-    buffers (at_entry rows) (at_entry columns) (at_entry values) (at_entry right) (at_entry kinds) (at_entry dimensions) (at_entry cost) (at_entry index)
+    buffers (mut_at_entry rows) (mut_at_entry columns) (mut_at_entry values) (mut_at_entry right) (mut_at_entry kinds) (mut_at_entry dimensions) (mut_at_entry cost) (mut_at_entry index)
 
-abbrev pub buffers_after : Lent ℕ → Lent ℕ → Lent Float → Lent Float → Lent ℕ → Lent ℕ → Lent Float → Lent ℕ → Buffers
+abbrev pub buffers_after : LentMut ℕ → LentMut ℕ → LentMut Float → LentMut Float → LentMut ℕ → LentMut ℕ → LentMut Float → LentMut ℕ → Buffers
 buffers_after rows columns values right kinds dimensions cost index =
     buffers (at_exit rows) (at_exit columns) (at_exit values) (at_exit right) (at_exit kinds) (at_exit dimensions) (at_exit cost) (at_exit index)

@@ -4,7 +4,7 @@ use Rattle.std.proofs.lemmas.List.Edits.{sets}
 use Rattle.model.specs.Problem.{Problem, objectives}
 use Rattle.model.specs.Program.{Block}
 use Rattle.model.specs.Assembled.{cones, entries, right_side, cost}
-use Rattle.model.specs.Lent.{Lent, at_entry, at_exit}
+use Rattle.model.specs.Lent.{LentMut, mut_at_entry, at_exit}
 use Rattle.model.specs.Owners.{index}
 use Rattle.model.specs.declared.Tally.{Tally}
 use Rattle.buffers.specs.Buffers.{State, state, tally_of, Built}
@@ -30,7 +30,7 @@ pub record Complete (s s' : State) (x x' : List ℕ) (p : Problem) (b : ℕ) : T
   pub index : x' ≡ sets x 0 (index p)
   pub owner : s'.tally.owner ≡ length (objectives p) + 2
 
-abbrev pub complete : Tally → Lent ℕ → Lent ℕ → Lent Float → Lent Float → Lent ℕ → Lent ℕ → Lent Float → Lent ℕ → Tally → Problem → ℕ → Type 0
+abbrev pub complete : Tally → LentMut ℕ → LentMut ℕ → LentMut Float → LentMut Float → LentMut ℕ → LentMut ℕ → LentMut Float → LentMut ℕ → Tally → Problem → ℕ → Type 0
 complete t r c v h k d q x t' p b =
-    Complete (state (at_entry r) (at_entry c) (at_entry v) (at_entry h) (at_entry k) (at_entry d) (at_entry q) t)
-    (state (at_exit r) (at_exit c) (at_exit v) (at_exit h) (at_exit k) (at_exit d) (at_exit q) t') (at_entry x) (at_exit x) p b
+    Complete (state (mut_at_entry r) (mut_at_entry c) (mut_at_entry v) (mut_at_entry h) (mut_at_entry k) (mut_at_entry d) (mut_at_entry q) t)
+    (state (at_exit r) (at_exit c) (at_exit v) (at_exit h) (at_exit k) (at_exit d) (at_exit q) t') (mut_at_entry x) (at_exit x) p b

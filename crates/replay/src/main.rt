@@ -5,7 +5,7 @@
 #![tactic(auto)]
 
 ghost use Rattle.std.specs.Prelude.{◌≡◌, ◌-◌, ◌≤◌, length, take, drop};
-ghost use Rattle.model.specs.Lent.{at_entry, at_exit};
+ghost use Rattle.model.specs.Lent.{at_entry};
 
 use std::io;
 use std::io::Read;
@@ -93,7 +93,7 @@ fn replay_piece(rt: &impl Print, said: &mut io::Result<()>, s: &[u8], before: Ta
 // Moves what stands from `from` on to the front.
 fn move_to_front(s: &mut [u8], from: usize)
     requires { from ≤ length s.old }
-    ensures { take (length (at_entry s) - from) (at_exit s) ≡ drop from (at_entry s) }
+    ensures { take (length s.old - from) s.new ≡ drop from s.old }
 {
     let n = s.len() - from;
     let mut i: usize = 0;
@@ -121,8 +121,8 @@ fn read_on<R: Read>(
     held: usize,
 ) -> usize
     requires { held ≤ length list.old }
-    ensures lower_bound { (held ≤ result) × (result ≤ length (at_exit list)) }
-    ensures list_value { take held (at_exit list) ≡ take held (at_entry list) }
+    ensures lower_bound { (held ≤ result) × (result ≤ length list.new) }
+    ensures list_value { take held list.new ≡ take held list.old }
 {
     match reader.read(&mut list[held..]) {
         Ok(n) => held + n,
@@ -143,7 +143,7 @@ fn replay_held(
 ) -> Piece
     requires { end ≤ length list.old }
     ensures rest_le_end { result.rest ≤ end }
-    ensures list_value { take result.rest (at_exit list) ≡ drop (end - result.rest) (take end (at_entry list)) }
+    ensures list_value { take result.rest list.new ≡ drop (end - result.rest) (take end list.old) }
 {
     let piece = replay_piece(rt, said, &list[..end], tally);
     let from = piece.rest;

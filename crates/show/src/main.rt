@@ -2,16 +2,15 @@
 #![tactic(auto)]
 
 ghost use Rattle.std.specs.Prelude.{◌≡◌, ◌≤◌, length, take};
-ghost use Rattle.model.specs.Lent.{at_entry, at_exit};
 ghost use Rattle.show.specs.Shown.{Shown};
 
 use std::io;
 
 // Assembles problem number i and writes its page at the start of `out`.
 fn page_at(i: usize, out: &mut [u8]) -> usize
-    ensures shown { Shown i (at_entry out) (at_exit out) result }
-    ensures in_bounds { result ≤ length (at_exit out) }
-    ensures prefix_len { result ≡ length (take result (at_exit out)) }
+    ensures shown { Shown i out.old out.new result }
+    ensures in_bounds { result ≤ length out.new }
+    ensures prefix_len { result ≡ length (take result out.new) }
 {
     let mut rows = [0u32; 160];
     let mut columns = [0u32; 160];

@@ -10,7 +10,7 @@ ghost use Rattle.buffers.specs.Inputs.{Sized, path, torque_of};
 ghost use Rattle.buffers.specs.Lent.{RoomAll, built, closed, fills_cost};
 ghost use Rattle.first_order.specs.Limits.{limits};
 ghost use Rattle.linear.specs.Charges.{Fits, ab_cost};
-ghost use Rattle.model.specs.Lent.{at_entry, at_exit};
+ghost use Rattle.model.specs.Lent.{at_entry};
 ghost use Rattle.model.specs.Objectives.{thermal_block, time_block, torque_block};
 ghost use Rattle.model.specs.Problem.{n, some, uses_root};
 ghost use Rattle.model.specs.Program.{nothing};
@@ -46,7 +46,7 @@ pub fn standard_rows(
     end: model::Bounds,
 )
     requires { RoomAll t.old (standard_room (length grid.now)) × Sized grid.now ends × (length amax.now ≡ length grid.now) × AccSized grid.now acc_rows.now acc_a.now acc_b.now acc_max.now × Few acc_rows.now × JerkSized grid.now jerk_rows.now jerk_a.now jerk_b.now jerk_c.now jerk_max.now × Few jerk_rows.now }
-    ensures { closed (at_entry t) rows columns values right kinds dimensions (at_exit t) (standard_cones (path (at_entry grid) ends) boundary (limits start end (at_entry amax)) (acc_of (at_entry acc_rows) (at_entry acc_a) (at_entry acc_b) (at_entry acc_max)) (jerk_of (at_entry jerk_rows) (at_entry jerk_a) (at_entry jerk_b) (at_entry jerk_c) (at_entry jerk_max))) (standard_room (length (at_entry grid))) }
+    ensures { closed t.old rows columns values right kinds dimensions t.new (standard_cones (path (at_entry grid) ends) boundary (limits start end (at_entry amax)) (acc_of (at_entry acc_rows) (at_entry acc_a) (at_entry acc_b) (at_entry acc_max)) (jerk_of (at_entry jerk_rows) (at_entry jerk_a) (at_entry jerk_b) (at_entry jerk_c) (at_entry jerk_max))) (standard_room (length (at_entry grid))) }
 {
     *t = standard::clarabel_standard_constraint_topp3(
         *t, rows, columns, values, right, kinds, dimensions, grid, ends, amax, acc_rows, acc_a,
@@ -106,7 +106,7 @@ pub fn root_stage(
     count: usize,
 )
     requires { RoomAll t.old (root_room (length grid.now)) × Sized grid.now ends × (count ≤ most_objectives) }
-    ensures { built (at_entry t) rows columns values right kinds dimensions cost (at_exit t) (cond (some uses_root (take count objectives)) (root_stage (path (at_entry grid) ends)) nothing) (root_room (length (at_entry grid))) }
+    ensures { built t.old rows columns values right kinds dimensions cost t.new (cond (some uses_root (take count objectives)) (root_stage (path (at_entry grid) ends)) nothing) (root_room (length (at_entry grid))) }
 {
     *t = sqrt_a::clarabel_sqrt_a_copp3(
         *t, rows, columns, values, right, kinds, dimensions, cost, grid, ends, objectives, count,
@@ -152,7 +152,7 @@ pub fn linear(
     count: usize,
 )
     requires { (t.old.columns.at + 2 * length grid.now ≤ 2 ^ 32) × Sized grid.now ends × (count ≤ most_objectives) × ((i : ℕ) → i < count → Fits grid.now ends start_roots.now end_roots.now pool.now (get_or objectives i (Time nan))) }
-    ensures { fills_cost (at_entry t) cost (at_exit t) (ab_cost (at_entry grid) ends (at_entry start_roots) (at_entry end_roots) (at_entry pool) (take count objectives)) 0 (2 * (n (path (at_entry grid) ends) + 1)) }
+    ensures { fills_cost t.old cost t.new (ab_cost (at_entry grid) ends (at_entry start_roots) (at_entry end_roots) (at_entry pool) (take count objectives)) 0 (2 * (n (path (at_entry grid) ends) + 1)) }
 {
     *t = linear::ab_costs(
         *t,
@@ -212,7 +212,7 @@ pub fn time(
     weight: f64,
 )
     requires { RoomAll t.old (time_room (length grid.now)) × Sized grid.now ends }
-    ensures { built (at_entry t) rows columns values right kinds dimensions cost (at_exit t) (time_block (path (at_entry grid) ends) weight (at_entry t).columns.at) (time_room (length (at_entry grid))) }
+    ensures { built t.old rows columns values right kinds dimensions cost t.new (time_block (path (at_entry grid) ends) weight t.old.columns.at) (time_room (length (at_entry grid))) }
 {
     *t = time::clarabel_objective_time_copp3(
         *t, rows, columns, values, right, kinds, dimensions, cost, grid, ends, weight,
@@ -264,7 +264,7 @@ pub fn thermal_energy(
     weight: f64,
 )
     requires { RoomAll t.old (thermal_room (length grid.now)) × Given grid.now ends torque_a.now torque_b.now torque_g.now scales.now d × (length thermal.now ≡ length grid.now) }
-    ensures { built (at_entry t) rows columns values right kinds dimensions cost (at_exit t) (thermal_block (path (at_entry grid) ends) (torque_of d (at_entry torque_a) (at_entry torque_b) (at_entry torque_g)) (at_entry thermal) weight (at_entry scales) (at_entry t).columns.at) (thermal_room (length (at_entry grid))) }
+    ensures { built t.old rows columns values right kinds dimensions cost t.new (thermal_block (path (at_entry grid) ends) (torque_of d (at_entry torque_a) (at_entry torque_b) (at_entry torque_g)) (at_entry thermal) weight (at_entry scales) t.old.columns.at) (thermal_room (length (at_entry grid))) }
 {
     *t = thermal_energy::clarabel_objective_thermal_energy_copp3(
         *t, rows, columns, values, right, kinds, dimensions, cost, grid, ends, thermal, torque_a,
@@ -323,7 +323,7 @@ pub fn total_variation_torque(
     weight: f64,
 )
     requires { RoomAll t.old (torque_room (length grid.now)) × Given grid.now ends torque_a.now torque_b.now torque_g.now scales.now d }
-    ensures { built (at_entry t) rows columns values right kinds dimensions cost (at_exit t) (torque_block (path (at_entry grid) ends) (torque_of d (at_entry torque_a) (at_entry torque_b) (at_entry torque_g)) weight (at_entry scales) (at_entry t).columns.at) (torque_room (length (at_entry grid))) }
+    ensures { built t.old rows columns values right kinds dimensions cost t.new (torque_block (path (at_entry grid) ends) (torque_of d (at_entry torque_a) (at_entry torque_b) (at_entry torque_g)) weight (at_entry scales) t.old.columns.at) (torque_room (length (at_entry grid))) }
 {
     *t = tv_torque::clarabel_objective_tv_torque_copp3(
         *t, rows, columns, values, right, kinds, dimensions, cost, grid, ends, torque_a, torque_b,

@@ -5,7 +5,7 @@
 ghost use Rattle.std.specs.Prelude.{◌≡◌, [], ◌∷◌, ◌++◌, ◌+◌, ◌-◌, ◌*◌, ◌^◌, ◌<◌, ◌≤◌, ltb, length};
 ghost use Rattle.std.specs.Float.Ieee.{neg};
 ghost use Rattle.model.specs.Refusals.{most_stations, most_joints};
-ghost use Rattle.model.specs.Lent.{at_entry, at_exit};
+ghost use Rattle.model.specs.Lent.{at_entry};
 ghost use Rattle.model.specs.Numbers.{at, ◌⊕◌, ◌⊗◌, +4};
 ghost use Rattle.model.specs.Lists.{list, given};
 ghost use Rattle.model.specs.Program.{cell};
@@ -502,7 +502,7 @@ fn costs(
     weight: f64,
 ) -> Tally
     requires { (t.columns.at + length grid.now + 2 ≤ 2 ^ 32) × Sized grid.now ends × (length thermal.now ≡ length grid.now) }
-    ensures { Costs t (at_entry cost) result (at_exit cost) (thermal_costs (path (at_entry grid) ends) (at_entry thermal) weight) × (result.columns.at ≡ t.columns.at + (Problem.ends (path (at_entry grid) ends) + L (path (at_entry grid) ends))) }
+    ensures { Costs t cost.old result cost.new (thermal_costs (path (at_entry grid) ends) (at_entry thermal) weight) × (result.columns.at ≡ t.columns.at + (Problem.ends (path (at_entry grid) ends) + L (path (at_entry grid) ends))) }
 {
     let u = end_cost(t, cost, thermal, weight, ends.n0, 0);
     let v = end_cost(u, cost, thermal, weight, ends.n1, grid.len() - 1);

@@ -1,0 +1,9 @@
+use Prim.Native.Nat.{◌-◌}
+use Rattle.buffers.proofs.Laws.{stage}
+use Rattle.buffers.proofs.cost_same.Goals as goal
+
+pub loop-i-init : goal.loop-i-init
+loop-i-init c = search stage
+
+pub loop-i-preserved : goal.loop-i-preserved
+loop-i-preserved c = search stage

@@ -1,0 +1,5 @@
+use Rattle.buffers.proofs.Laws.{one_entry}
+use Rattle.buffers.proofs.put.Goals as goal
+
+pub returns : goal.returns
+returns c = search one_entry

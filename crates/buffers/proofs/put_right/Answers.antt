@@ -1,0 +1,5 @@
+use Rattle.buffers.proofs.Laws.{one_right}
+use Rattle.buffers.proofs.put_right.Goals as goal
+
+pub returns : goal.returns
+returns c = search one_right
