@@ -1,0 +1,7 @@
+use lib.Ieee.{of_bits, div}
+use borrow.Author.Rules.{rules}
+use Rattle.ledger_cases.proofs.usual.Goals as goal
+
+pub returns : goal.returns
+unfolding of_bits div
+returns c = search rules

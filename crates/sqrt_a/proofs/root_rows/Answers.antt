@@ -1,0 +1,10 @@
+use mathlib.Core.Path.{refl}
+use Rattle.model.specs.Problem.{skip}
+use Rattle.model.specs.Standard.{root_cone}
+use Rattle.buffers.proofs.Laws.{wrote_then}
+use Rattle.columns.proofs.Cells.{band_at, at_column}
+use Rattle.sqrt_a.proofs.root_rows.Goals as goal
+
+pub returns : goal.returns
+unfolding root_cone skip
+returns c = rw (← c.larger.ensures) (wrote_then (wrote_then (band_at c.row1-u.ensures (at_column c.column_a-a.ensures refl)) (band_at c.row1-u-2.ensures (at_column c.column_a-a.ensures refl))) (band_at c.row1.ensures (at_column c.column_xi-xi.ensures refl)))
