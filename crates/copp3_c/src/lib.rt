@@ -1,4 +1,5 @@
 // Sizing, the assembly and the owners of rows and columns for C and Rust. Objectives come as plain records with a kind; include/copp3_assembly.h is the same for C.
+// The crate copp3_c_c exports the last four functions.
 
 #![tactic(auto)]
 
@@ -179,8 +180,7 @@ fn owner_record(a: OwnerAnswer) -> OwnerRecord
 }
 
 // Document 01's sizing: every refusal tested before 19, or the four counts.
-#[unsafe(no_mangle)]
-pub extern "C" fn copp3_size(
+pub fn copp3_size(
     job: Job,
     records: ObjectiveRecords,
     grid: &[f64],
@@ -235,8 +235,7 @@ pub extern "C" fn copp3_size(
 }
 
 // Document 01's assembly.
-#[unsafe(no_mangle)]
-pub extern "C" fn copp3_assemble(
+pub fn copp3_assemble(
     job: Job,
     records: ObjectiveRecords,
     grid: &[f64],
@@ -307,8 +306,7 @@ pub extern "C" fn copp3_assemble(
 }
 
 // Request 6: the owner of a row, by an index with a number of objectives. Here a row number is plain for the last time.
-#[unsafe(no_mangle)]
-pub extern "C" fn copp3_owner_of_row(index: &[usize], objectives: usize, row: usize) -> OwnerRecord
+pub fn copp3_owner_of_row(index: &[usize], objectives: usize, row: usize) -> OwnerRecord
     ensures { result ≡ owner_record (owner_of_row (at_entry index) objectives row) }
 {
     let a = owners::owner_of_row(index, objectives, Row { at: row });
@@ -316,12 +314,7 @@ pub extern "C" fn copp3_owner_of_row(index: &[usize], objectives: usize, row: us
 }
 
 // Request 6: the owner of a column.
-#[unsafe(no_mangle)]
-pub extern "C" fn copp3_owner_of_column(
-    index: &[usize],
-    objectives: usize,
-    column: usize,
-) -> OwnerRecord
+pub fn copp3_owner_of_column(index: &[usize], objectives: usize, column: usize) -> OwnerRecord
     ensures { result ≡ owner_record (owner_of_column (at_entry index) objectives column) }
 {
     let a = owners::owner_of_column(index, objectives, Column { at: column });

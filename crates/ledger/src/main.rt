@@ -2,18 +2,18 @@
 #![tactic(auto)]
 
 use model::Answer;
+use std::io;
 
-fn number(k: usize) {
-    io::write_all(1, b" ");
-    io::print_decimal(1, k as u64);
+fn number(rt: &impl Print, k: usize) -> io::Result<()> {
+    print!(rt; " {k}")
 }
 
-fn print_answer(a: Answer) {
+fn print_answer(rt: &impl Print, a: Answer) -> io::Result<()> {
     match a {
         Answer::Refusal { number: r, place } => {
-            io::write_all(1, b" refused");
-            number(r);
-            number(place);
+            rt.write_all(b" refused")?;
+            number(rt, r)?;
+            number(rt, place)
         }
         Answer::Counts {
             entries,
@@ -21,19 +21,20 @@ fn print_answer(a: Answer) {
             cones,
             columns,
         } => {
-            number(entries);
-            number(rows);
-            number(cones);
-            number(columns);
+            number(rt, entries)?;
+            number(rt, rows)?;
+            number(rt, cones)?;
+            number(rt, columns)
         }
     }
 }
 
-fn main() {
+fn main(rt: HostRuntime) -> io::Result<()> {
     for i in 0..ledger_cases::count() {
         let letter = [ledger_cases::letter_at(i)];
-        io::write_all(1, &letter);
-        print_answer(ledger_cases::answer_at(i));
-        io::write_all(1, b"\n");
+        rt.write_all(&letter)?;
+        print_answer(&rt, ledger_cases::answer_at(i))?;
+        rt.write_all(b"\n")?;
     }
+    Ok(())
 }

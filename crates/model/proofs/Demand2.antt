@@ -134,7 +134,7 @@ module _ (p : Problem) (ok : Acceptable p) where
           subst (λ (y : ℤ). travel p D w m.M ≼ pos m.k *ℤ y) (sym time_alone)
           (travel_least p D z w (first_own_column p) time_means m (λ j l. weight_least p passed (sized p passed) doubles w (time_fit p passed w alone) (skip p.path + j) (omega (arith, (sized p passed).reach))))
 
-      -- and just that where every X-as-E is D²
+      -- and just that where every X·E is D²
       pub travel_time_exactly : (m : Multiple (xi p D z) (L p.path)) → ((j : ℕ) → j < L p.path → xi p D z j *ℤ z (first_own_column p + j) ≡ pos D *ℤ pos D)
           → travel p D w m.M ≡ pos m.k *ℤ cost_at p z
       travel_time_exactly m tight = travel_exactly p D z w (first_own_column p) time_means m tight ∙ ap (λ (y : ℤ). pos m.k *ℤ y) (sym time_alone)

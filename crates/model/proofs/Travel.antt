@@ -1,5 +1,5 @@
 -- What a Time objective's cost bounds: eta is at least 1/xi, so the cost is at least the sum of its weights over xi, the travel time over the grid.
--- With a common multiple k of the X, k = M j·X j, 1/xi number j is D-as-M j/k, and the bound is one inequality of whole numbers.
+-- With a common multiple k of the X, k = M j·X j, 1/xi number j is D·M j/k, and the bound is one inequality of whole numbers.
 use Prim.Native.Nat.{ℕ, zero, suc, ◌+◌, ◌-◌, ◌*◌, ◌≤◌, ◌<◌}
 use native.Mathlib.Nat.{mul-le-mul_left, mul-pos, not-suc-le-zero}
 use native.Mathlib.Decide.{dec_lt}
@@ -63,7 +63,7 @@ pub record Multiple (X : ℕ → ℤ) (c : ℕ) : Type 0 where
 abbrev pub weight_of : Problem → Float → ℕ → Float
 weight_of p w j = w ⊗ at (time_weights p.path) (skip p.path + j)
 
--- the travel time over the grid, in units of 2^−1074 over k·D: the sum of the weights, each times D²-as-M j
+-- the travel time over the grid, in units of 2^−1074 over k·D: the sum of the weights, each times D²·M j
 abbrev pub travel : Problem → ℕ → Float → (ℕ → ℤ) → ℤ
 travel p D w M = sum_to (λ j. weight_of p w j · (pos D *ℤ pos D *ℤ M j)) (L p.path)
 

@@ -91,7 +91,7 @@ round_value f s num den n h e ok =
     ∙ ap (λ (x : ℕ). Ieee.units f s x k) (closest_same (n * l) (l * 2 ^ k) n (2 ^ k) (mul-pos L (pow_pos k)) (pow_pos k) (mul_assoc n l (2 ^ k))) in
     ap (value f) is ∙ value_of f (Ieee.units f s c k) s (c * 2 ^ k) (units_val f s c k (units_below f s c k (subst (λ (x : Float). finite x ≡ true) is ok)))
 
--- ---- two values over one denominator D: a·D = A-as-L and b·D = B-as-L, L the units in 1
+-- ---- two values over one denominator D: a·D = A·L and b·D = B·L, L the units in 1
 
 less : (A B a b D L : ℕ) → 0 < L → a * D ≡ A * L → b * D ≡ B * L → A < B → a < b
 less A B a b D L l e g h = lt_of_mul-lt-mul_right D {m = a} {n = b} (omega (arith, mul-lt-mul_of_pos_right h l))

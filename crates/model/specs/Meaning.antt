@@ -105,7 +105,7 @@ module _ (p : Problem) (D : ℕ) (z : ℕ → ℤ) where
         let r = +1 ⊘ spacing q k in
         at p.jerk.a o · a k +ℤ (at p.jerk.b o ⊖ at p.jerk.c o ⊗ r) · b k +ℤ (at p.jerk.c o ⊗ r) · b (k + 1) ≼ at p.jerk.max o · pos D
 
-  -- ---- module 5: xi ≥ 0, and A-as-D ≥ X², for each xi
+  -- ---- module 5: xi ≥ 0, and A·D ≥ X², for each xi
 
   pub record RootStage : Type 0 where
     pub nonnegative : (j : ℕ) → j < L q → pos 0 ≼ xi j
@@ -113,7 +113,7 @@ module _ (p : Problem) (D : ℕ) (z : ℕ → ℤ) where
 
   -- ---- module 6: an objective whose own columns start at c
 
-  -- Time: eta ≥ 0, X + E ≥ 0 and X-as-E ≥ D², for each xi and its eta
+  -- Time: eta ≥ 0, X + E ≥ 0 and X·E ≥ D², for each xi and its eta
   pub record TimeMeaning (c : ℕ) : Type 0 where
     pub nonnegative : (j : ℕ) → j < L q → pos 0 ≼ z (c + j)
     pub sum : (j : ℕ) → j < L q → pos 0 ≼ xi j +ℤ z (c + j)

@@ -7,6 +7,9 @@
 ghost use Rattle.std.specs.Prelude.{◌≡◌, ◌-◌, ◌≤◌, length, take, drop};
 ghost use Rattle.model.specs.Lent.{at_entry};
 
+use std::io;
+use std::io::Read;
+
 // The group that is being counted.
 #[derive(Clone, Copy)]
 struct Tally {
@@ -23,26 +26,33 @@ struct Piece {
     rest: usize,
 }
 
-// Writes the line of a group that has a case.
-fn print(tally: Tally) {
+// The line of a group.
+fn write_line(rt: &impl Print, tally: Tally) -> io::Result<()> {
+    let letter = [tally.group, b' '];
+    rt.write_all(&letter)?;
+    let cases = tally.cases;
+    let agreeing = tally.agreeing;
+    print!(rt; "{cases} {agreeing}\n")
+}
+
+// Writes the line of a group that has a case. `said` keeps the first error of a read or a write, after
+// which nothing is written.
+fn print(rt: &impl Print, said: &mut io::Result<()>, tally: Tally) {
     if tally.cases == 0 {
         return;
     }
-    let letter = [tally.group, b' '];
-    io::write_all(1, &letter);
-    io::print_decimal(1, tally.cases);
-    io::write_all(1, b" ");
-    io::print_decimal(1, tally.agreeing);
-    io::write_all(1, b"\n");
+    if said.is_ok() {
+        *said = write_line(rt, tally);
+    }
 }
 
 // The tally to count a case of a group in: where the group is another, writes the line of the last
 // one and begins at 0.
-fn of_group(tally: Tally, group: u8) -> Tally {
+fn of_group(rt: &impl Print, said: &mut io::Result<()>, tally: Tally, group: u8) -> Tally {
     if tally.group == group {
         return tally;
     }
-    print(tally);
+    print(rt, said, tally);
     Tally {
         group,
         cases: 0,
@@ -60,8 +70,7 @@ fn counted(tally: Tally, agrees: bool) -> Tally {
 }
 
 // Replays the whole cases of a piece.
-fn replay_piece(s: &[u8], before: Tally) -> Piece
-    ensures { result.rest ≤ length (at_entry s) }) -> Piece
+fn replay_piece(rt: &impl Print, said: &mut io::Result<()>, s: &[u8], before: Tally) -> Piece
     ensures { result.rest ≤ length (at_entry s) }
 {
     let mut tally = before;
@@ -75,7 +84,7 @@ fn replay_piece(s: &[u8], before: Tally) -> Piece
         if next <= at {
             return Piece { tally, rest: at };
         }
-        tally = counted(of_group(tally, case.group), case.agrees);
+        tally = counted(of_group(rt, said, tally, case.group), case.agrees);
         at = next;
     }
     Piece { tally, rest: at }
@@ -95,31 +104,48 @@ fn move_to_front(s: &mut [u8], from: usize)
 }
 
 // After the input's end: the last group's line, or that a case is cut off.
-fn print_end(tally: Tally, held: usize) {
+fn print_end(rt: &impl Print, said: &mut io::Result<()>, tally: Tally, held: usize) {
     if held == 0 {
-        print(tally);
-    } else {
-        io::write_all(1, b"cut off\n");
+        print(rt, said, tally);
+    } else if said.is_ok() {
+        *said = rt.write_all(b"cut off\n");
     }
 }
 
-// Reads on behind the `held` bytes at hand, and answers where what is at hand then ends.
-fn read_on(list: &mut [u8], held: usize) -> usize
+// Reads on behind the `held` bytes at hand, and answers where what is at hand then ends: a read that
+// fails adds nothing, as the input's end does.
+fn read_on<R: Read>(
+    reader: &mut R,
+    said: &mut io::Result<()>,
+    list: &mut [u8],
+    held: usize,
+) -> usize
     requires { held ≤ length list.old }
     ensures lower_bound { (held ≤ result) × (result ≤ length list.new) }
     ensures list_value { take held list.new ≡ take held list.old }
 {
-    let n = io::read_full(0, &mut list[held..]);
-    held + n
+    match reader.read(&mut list[held..]) {
+        Ok(n) => held + n,
+        Err(e) => {
+            *said = Err(e);
+            held
+        }
+    }
 }
 
 // Replays the whole cases before `end`, moves the rest to the front, and answers how long that is.
-fn replay_held(list: &mut [u8], end: usize, tally: Tally) -> Piece
+fn replay_held(
+    rt: &impl Print,
+    said: &mut io::Result<()>,
+    list: &mut [u8],
+    end: usize,
+    tally: Tally,
+) -> Piece
     requires { end ≤ length list.old }
     ensures rest_le_end { result.rest ≤ end }
     ensures list_value { take result.rest list.new ≡ drop (end - result.rest) (take end list.old) }
 {
-    let piece = replay_piece(&list[..end], tally);
+    let piece = replay_piece(rt, said, &list[..end], tally);
     let from = piece.rest;
     move_to_front(&mut list[..end], from);
     let counted = piece.tally;
@@ -131,7 +157,8 @@ fn replay_held(list: &mut [u8], end: usize, tally: Tally) -> Piece
 
 // A proved loop has to end, and nothing says that an input does: the turns are counted down from a
 // number that no run uses up.
-fn replay(list: &mut [u8]) {
+fn replay<R: Read>(rt: &impl Print, reader: &mut R, list: &mut [u8]) -> io::Result<()> {
+    let mut said = Ok(());
     let mut tally = Tally {
         group: 0,
         cases: 0,
@@ -140,19 +167,23 @@ fn replay(list: &mut [u8]) {
     let mut held: usize = 0;
     let mut turns = u64::MAX;
     while turns > 0 {
-        let end = read_on(list, held);
+        let end = read_on(reader, &mut said, list, held);
         if end == held {
-            print_end(tally, held);
-            return;
+            print_end(rt, &mut said, tally, held);
+            return said;
         }
-        let piece = replay_held(list, end, tally);
+        let piece = replay_held(rt, &mut said, list, end, tally);
+        if said.is_err() {
+            return said;
+        }
         tally = piece.tally;
         held = piece.rest;
         turns -= 1;
     }
+    said
 }
 
-fn main() {
-    let mut list = io::large_buffer();
-    replay(&mut list);
+fn main(rt: HostRuntime) -> io::Result<()> {
+    let mut list = [0u8; 65536];
+    replay(&rt, &mut rt.stdin(), &mut list)
 }

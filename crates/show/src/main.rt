@@ -1,14 +1,16 @@
 // Assembles three problems and prints each for a person, as docs/LISTING.md has it.
 #![tactic(auto)]
 
-ghost use Rattle.io.specs.Counts.{IsPrefixLen};
-
+ghost use Rattle.std.specs.Prelude.{◌≡◌, ◌≤◌, length, take};
 ghost use Rattle.show.specs.Shown.{Shown};
+
+use std::io;
 
 // Assembles problem number i and writes its page at the start of `out`.
 fn page_at(i: usize, out: &mut [u8]) -> usize
     ensures shown { Shown i out.old out.new result }
-    ensures prefix_len { IsPrefixLen result out.new }
+    ensures in_bounds { result ≤ length out.new }
+    ensures prefix_len { result ≡ length (take result out.new) }
 {
     let mut rows = [0u32; 160];
     let mut columns = [0u32; 160];
@@ -51,28 +53,30 @@ fn page_at(i: usize, out: &mut [u8]) -> usize
 }
 
 // A line that tells the problem, and its page.
-fn print(i: usize, title: &[u8]) {
-    io::write_all(1, title);
-    let mut buffer = io::large_buffer();
+fn print(rt: &impl Print, i: usize, title: &[u8]) -> io::Result<()> {
+    rt.write_all(title)?;
+    let mut buffer = [0u8; 65536];
     let n = page_at(i, &mut buffer);
-    io::write_all(1, &buffer[..n]);
+    rt.write_all(&buffer[..n])
 }
 
-fn main() {
-    io::write_all(
-        1,
+fn main(rt: HostRuntime) -> io::Result<()> {
+    rt.write_all(
         b"Each row reads: entries + s = right side, where s is the row's slack. A zero cone holds s at 0, a nonnegative cone at 0 or above;\nin a second-order cone the first s is at least the length of the others. What stands after 0x are the 16 hex digits of a double.\nIn a pattern each line is a row, and + and - are entries above and below 0.\n",
-    );
+    )?;
     print(
+        &rt,
         0,
         b"\n1. Document 01's case A: grid 0 1 2, one Time objective of weight 1. It is small, and it has no feasible point.\n",
-    );
+    )?;
     print(
+        &rt,
         1,
         b"\n2. At rest at both ends: grid 0 1 2.5 4 5, an acceleration row and a jerk row at station 2, all four objectives.\n",
-    );
+    )?;
     print(
+        &rt,
         2,
         b"\n3. Two pieces joined so that stations 1 and 2 coincide: grid 0 1 1.\n",
-    );
+    )
 }
