@@ -4,8 +4,7 @@
 ghost use Rattle.std.specs.Prelude.{◌≡◌, cond, ◌≤◌, eqb};
 ghost use Rattle.model.specs.Lent.{at_entry};
 ghost use Rattle.text.specs.Text.{says};
-ghost use Rattle.column_names.specs.Columns.{layout, slot_at, own_letter, letter_at, kind_name};
-ghost use Rattle.column_names.specs.Columns.{word as Columns·word, before as Columns·before, name as Columns·name, row_owner as Columns·rowOwner};
+ghost use Rattle.column_names.specs.Columns.{layout, slot_at, own_letter, letter_at, before, word, name, kind_name, row_owner};
 
 use model::{Column, Objective, OwnerAnswer, Row};
 use text::words;
@@ -80,7 +79,7 @@ fn before(
     letter: u8,
     column: Column,
 ) -> usize
-    ensures { result ≡ Columns·before (layout stations objectives count (at_entry index)) letter column.at }
+    ensures { result ≡ before (layout stations objectives count (at_entry index)) letter column.at }
 {
     let end = column.at;
     let mut n: usize = 0;
@@ -92,7 +91,7 @@ fn before(
 }
 
 fn word(out: &mut [u8], at: usize, letter: u8) -> usize
-    ensures { says (Columns·word letter) out at result }
+    ensures { says (word letter) out at result }
 {
     if letter == b'x' {
         return words(out, at, b"xi");
@@ -113,7 +112,7 @@ pub fn name(
     index: &[usize],
     column: Column,
 ) -> usize
-    ensures { says (Columns·name (layout stations objectives count (at_entry index)) column.at) out at result }
+    ensures { says (name (layout stations objectives count (at_entry index)) column.at) out at result }
 {
     let letter = letter_at(stations, objectives, count, index, column);
     let n = before(stations, objectives, count, index, letter, column);
@@ -142,7 +141,7 @@ pub fn row_owner(
     index: &[usize],
     row: Row,
 ) -> usize
-    ensures { says (Columns·rowOwner (layout stations objectives count (at_entry index)) row.at) out at result }
+    ensures { says (row_owner (layout stations objectives count (at_entry index)) row.at) out at result }
 {
     let owner = owners::owner_of_row(index, count, row);
     match owner {

@@ -4,8 +4,7 @@ ghost use Rattle.model.specs.Lent.{at_entry};
 ghost use Rattle.model.specs.Lists.{over};
 ghost use Rattle.text.specs.Text.{says};
 ghost use Rattle.column_names.specs.Columns.{layout};
-ghost use Rattle.listing.specs.Rows.{matrix, kind_word, cone_head};
-ghost use Rattle.listing.specs.Rows.{cone as Rows·cone, row as Rows·row};
+ghost use Rattle.listing.specs.Rows.{matrix, row, kind_word, cone_head, cone};
 
 use crate::rows::{number_at, row};
 use column_names::row_owner;
@@ -85,7 +84,7 @@ fn cone_rows(
     end: Row,
 ) -> usize
     requires { first.at ≤ end.at }
-    ensures { says (over (Rows·row (layout stations objectives count (at_entry index)) (matrix (at_entry rows) (at_entry columns) (at_entry values)) entries (at_entry right)) first.at (end.at - first.at)) out at result }
+    ensures { says (over (row (layout stations objectives count (at_entry index)) (matrix (at_entry rows) (at_entry columns) (at_entry values)) entries (at_entry right)) first.at (end.at - first.at)) out at result }
 {
     let from = first.at;
     let to = end.at;
@@ -118,7 +117,7 @@ pub fn cones(
     kinds: &[u8],
     dimensions: &[u32],
 ) -> usize
-    ensures { says (over (Rows·cone (layout stations objectives count (at_entry index)) (matrix (at_entry rows) (at_entry columns) (at_entry values)) entries (at_entry right) height (at_entry kinds) (at_entry dimensions)) 0 number) out at result }
+    ensures { says (over (cone (layout stations objectives count (at_entry index)) (matrix (at_entry rows) (at_entry columns) (at_entry values)) entries (at_entry right) height (at_entry kinds) (at_entry dimensions)) 0 number) out at result }
 {
     let mut next = at;
     let mut first = Row { at: 0 };

@@ -5,7 +5,7 @@ mod cones;
 mod pattern;
 mod rows;
 
-ghost use Rattle.model.specs.Lent.{buffers_before};
+ghost use Rattle.model.specs.Answers.{buffers};
 ghost use Rattle.text.specs.Text.{says};
 ghost use Rattle.listing.specs.Page.{counts_line, page_of};
 
@@ -50,7 +50,7 @@ pub fn page(
     cost: &[f64],
     index: &[usize],
 ) -> usize
-    ensures { says (page_of stations objectives count answer (buffers_before rows columns values right kinds dimensions cost index)) out at result }
+    ensures { says (page_of stations objectives count answer (buffers rows.now columns.now values.now right.now kinds.now dimensions.now cost.now index.now)) out at result }
 {
     match answer {
         Answer::Refusal { number, place } => refusal_words::refused(out, at, number, place),

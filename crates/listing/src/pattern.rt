@@ -5,8 +5,7 @@ ghost use Rattle.model.specs.Lists.{over};
 ghost use Rattle.text.specs.Text.{says};
 ghost use Rattle.column_names.specs.Columns.{layout, letter_at};
 ghost use Rattle.listing.specs.Rows.{matrix};
-ghost use Rattle.listing.specs.Pattern.{sign_mark, mark_from, picture_row};
-ghost use Rattle.listing.specs.Pattern.{picture as Pattern·picture};
+ghost use Rattle.listing.specs.Pattern.{sign_mark, mark_from, picture_row, picture};
 
 use crate::rows::{column_at, float_at, row_at};
 use column_names::letter_at;
@@ -147,7 +146,7 @@ pub fn picture(
     height: usize,
     width: usize,
 ) -> usize
-    ensures { says (Pattern·picture (layout stations objectives count (at_entry index)) (matrix (at_entry rows) (at_entry columns) (at_entry values)) entries height width) out at result }
+    ensures { says (picture (layout stations objectives count (at_entry index)) (matrix (at_entry rows) (at_entry columns) (at_entry values)) entries height width) out at result }
 {
     let first = words(out, at, b"pattern:\n  ");
     let end = letters(out, first, stations, objectives, count, index, width);

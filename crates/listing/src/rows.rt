@@ -2,11 +2,10 @@
 ghost use Rattle.std.specs.Prelude.{◌≡◌, get_or};
 ghost use Rattle.model.specs.Lent.{at_entry};
 ghost use Rattle.model.specs.Lists.{over};
-ghost use Rattle.model.specs.Numbers.{at as Numbers·at};
+ghost use Rattle.model.specs.Numbers.{at};
 ghost use Rattle.text.specs.Text.{says};
 ghost use Rattle.column_names.specs.Columns.{layout};
-ghost use Rattle.listing.specs.Rows.{matrix, cost_line};
-ghost use Rattle.listing.specs.Rows.{plus as Rows·plus, term as Rows·term, entry as Rows·entry, row as Rows·row, charge as Rows·charge};
+ghost use Rattle.listing.specs.Rows.{matrix, plus, term, entry, row as row_line, charge, cost_line};
 
 use column_names::name;
 use model::{Column, Objective, Row};
@@ -41,13 +40,13 @@ pub fn column_at(columns: &[u32], i: usize) -> Column
 }
 
 pub fn float_at(xs: &[f64], i: usize) -> f64
-    ensures { result ≡ Numbers·at (at_entry xs) i }
+    ensures { result ≡ at (at_entry xs) i }
 {
     if i < xs.len() { xs[i] } else { 0.0 / 0.0 }
 }
 
 fn plus(out: &mut [u8], at: usize, x: f64) -> usize
-    ensures { says (Rows·plus x) out at result }
+    ensures { says (plus x) out at result }
 {
     if text::minus(x) {
         at
@@ -67,7 +66,7 @@ fn term(
     x: f64,
     column: Column,
 ) -> usize
-    ensures { says (Rows·term (layout stations objectives count (at_entry index)) x column.at) out at result }
+    ensures { says (term (layout stations objectives count (at_entry index)) x column.at) out at result }
 {
     let sign = words(out, at, b" ");
     let number = plus(out, sign, x);
@@ -90,7 +89,7 @@ fn entry(
     row: Row,
     i: usize,
 ) -> usize
-    ensures { says (Rows·entry (layout stations objectives count (at_entry index)) (matrix (at_entry rows) (at_entry columns) (at_entry values)) row.at i) out at result }
+    ensures { says (entry (layout stations objectives count (at_entry index)) (matrix (at_entry rows) (at_entry columns) (at_entry values)) row.at i) out at result }
 {
     let own = row_at(rows, i);
     if own.at == row.at {
@@ -115,7 +114,7 @@ fn terms(
     values: &[f64],
     row: Row,
 ) -> usize
-    ensures { says (over (Rows·entry (layout stations objectives count (at_entry index)) (matrix (at_entry rows) (at_entry columns) (at_entry values)) row.at) 0 entries) out at result }
+    ensures { says (over (entry (layout stations objectives count (at_entry index)) (matrix (at_entry rows) (at_entry columns) (at_entry values)) row.at) 0 entries) out at result }
 {
     let mut next = at;
     for i in 0..entries {
@@ -140,7 +139,7 @@ pub fn row(
     right: &[f64],
     row: Row,
 ) -> usize
-    ensures { says (Rows·row (layout stations objectives count (at_entry index)) (matrix (at_entry rows) (at_entry columns) (at_entry values)) entries (at_entry right) row.at) out at result }
+    ensures { says (row_line (layout stations objectives count (at_entry index)) (matrix (at_entry rows) (at_entry columns) (at_entry values)) entries (at_entry right) row.at) out at result }
 {
     let number = words(out, at, b"  ");
     let colon = text::decimal(out, number, row.at as u64);
@@ -164,7 +163,7 @@ fn charge(
     cost: &[f64],
     column: Column,
 ) -> usize
-    ensures { says (Rows·charge (layout stations objectives count (at_entry index)) (at_entry cost) column.at) out at result }
+    ensures { says (charge (layout stations objectives count (at_entry index)) (at_entry cost) column.at) out at result }
 {
     let x = float_at(cost, column.at);
     if x == 0.0 {
@@ -183,7 +182,7 @@ fn charges(
     cost: &[f64],
     width: usize,
 ) -> usize
-    ensures { says (over (Rows·charge (layout stations objectives count (at_entry index)) (at_entry cost)) 0 width) out at result }
+    ensures { says (over (charge (layout stations objectives count (at_entry index)) (at_entry cost)) 0 width) out at result }
 {
     let mut next = at;
     for k in 0..width {

@@ -5,13 +5,13 @@ ghost use Rattle.std.specs.Prelude.{◌++◌};
 ghost use Rattle.model.specs.Lent.{at_entry};
 ghost use Rattle.text.specs.Text.{says};
 ghost use Rattle.text.specs.Digits.{decimal};
-ghost use Rattle.refusal_words.specs.Refusals.{complaint as Refusals·complaint, place as Refusals·place, person as Refusals·person, refused as Refusals·refused};
+ghost use Rattle.refusal_words.specs.Refusals.{complaint, place, person, refused};
 
 use text::words;
 
 // What is wrong.
 fn complaint(out: &mut [u8], at: usize, number: usize) -> usize
-    ensures { says (Refusals·complaint number) out at result }
+    ensures { says (complaint number) out at result }
 {
     match number {
         1 => words(out, at, b"a boundary number is not finite"),
@@ -49,7 +49,7 @@ fn placed(out: &mut [u8], at: usize, text: &[u8], k: usize) -> usize
 
 // Where to look; k is the refusal's place.
 fn place(out: &mut [u8], at: usize, number: usize, k: usize) -> usize
-    ensures { says (Refusals·place number k) out at result }
+    ensures { says (place number k) out at result }
 {
     match number {
         1 => placed(out, at, b"boundary number ", k),
@@ -79,7 +79,7 @@ fn place(out: &mut [u8], at: usize, number: usize, k: usize) -> usize
 
 // Who is to look.
 fn person(out: &mut [u8], at: usize, number: usize) -> usize
-    ensures { says (Refusals·person number) out at result }
+    ensures { says (person number) out at result }
 {
     if number == 0 {
         return words(out, at, b"calls the library");
@@ -104,7 +104,7 @@ fn person(out: &mut [u8], at: usize, number: usize) -> usize
 
 // The whole line of a refusal.
 pub fn refused(out: &mut [u8], at: usize, number: usize, k: usize) -> usize
-    ensures { says (Refusals·refused number k) out at result }
+    ensures { says (refused number k) out at result }
 {
     let a = words(out, at, b"refused ");
     let b = text::decimal(out, a, number as u64);

@@ -2,7 +2,7 @@
 use Rattle.std.specs.Prelude.{◌≡◌, ℕ, suc, cond, List, [], ◌∷◌, length, nat_lt, slice_set}
 use Prim.Native.Char.{code}
 use Prim.Native.String.{String, [] as empty, ◌∷◌ as ◌then◌}
-use Rattle.std.specs.Borrow.{Bor}
+use Rattle.std.specs.Borrow.{MutBor}
 use denote.Triple.Both.{Both}
 
 -- the bytes of a text of ASCII
@@ -31,5 +31,5 @@ more (b ∷ bs) p = more bs (byte_more b p)
 pub record Says (text old : List ℕ) (at : ℕ) (new : List ℕ) (next : ℕ) : Type 0 where
   pub says : page new next ≡ more text (page old at)
 
-abbrev pub says : List ℕ → Both (Bor (List ℕ)) (Bor (List ℕ)) → ℕ → ℕ → Type 0
+abbrev pub says : List ℕ → Both (MutBor (List ℕ)) (MutBor (List ℕ)) → ℕ → ℕ → Type 0
 says text out at next = Says text out.entry.now at out.exit.now next

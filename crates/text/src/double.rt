@@ -1,7 +1,7 @@
 // A double as text: in decimals if it is the nearest to a whole multiple of 1/10,000, and else its 16 hex digits.
 ghost use Rattle.std.specs.Prelude.{◌≡◌};
 ghost use Rattle.text.specs.Text.{says};
-ghost use Rattle.text.specs.Number.{minus as Number·minus, magnitude as Number·magnitude, nearest as Number·nearest, fraction as Number·fraction, sign as Number·sign, number as Number·number};
+ghost use Rattle.text.specs.Number.{minus, magnitude, nearest, fraction, sign, number};
 
 use crate::{decimal, digits, put, words};
 
@@ -14,19 +14,19 @@ pub enum Multiple {
 
 // Whether x is below 0 or −0.
 pub fn minus(x: f64) -> bool
-    ensures { result ≡ Number·minus x }
+    ensures { result ≡ minus x }
 {
     1.0 / x < 0.0
 }
 
 fn magnitude(x: f64) -> f64
-    ensures { result ≡ Number·magnitude x }
+    ensures { result ≡ magnitude x }
 {
     if minus(x) { -x } else { x }
 }
 
 fn nearest(x: f64) -> Multiple
-    ensures { result ≡ Number·nearest x }
+    ensures { result ≡ nearest x }
 {
     let scaled = x * 10000.0 + 0.5;
     if scaled > -1.0 {
@@ -43,7 +43,7 @@ fn nearest(x: f64) -> Multiple
 }
 
 fn fraction(out: &mut [u8], at: usize, f: u64) -> usize
-    ensures { says (Number·fraction f) out at result }
+    ensures { says (fraction f) out at result }
 {
     if f == 0 {
         return at;
@@ -62,13 +62,13 @@ fn fraction(out: &mut [u8], at: usize, f: u64) -> usize
 }
 
 fn sign(out: &mut [u8], at: usize, x: f64) -> usize
-    ensures { says (Number·sign x) out at result }
+    ensures { says (sign x) out at result }
 {
     if minus(x) { put(out, at, b'-') } else { at }
 }
 
 pub fn number(out: &mut [u8], at: usize, x: f64) -> usize
-    ensures { says (Number·number x) out at result }
+    ensures { says (number x) out at result }
 {
     if x != x {
         return words(out, at, b"NaN");

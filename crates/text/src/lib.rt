@@ -6,7 +6,7 @@ mod double;
 
 ghost use Rattle.std.specs.Prelude.{◌≡◌, ◌+◌, ◌<◌, ◌≤◌, [], ◌∷◌};
 ghost use Rattle.text.specs.Text.{says};
-ghost use Rattle.text.specs.Digits.{digit as Digits·digit, digits as Digits·digits, places as Digits·places, decimal as Digits·decimal};
+ghost use Rattle.text.specs.Digits.{digit, digits, places, decimal};
 
 pub use double::{minus, number};
 
@@ -34,7 +34,7 @@ pub fn words(out: &mut [u8], at: usize, text: &[u8]) -> usize
 
 fn digit(d: u64) -> u8
     requires { d < 16 }
-    ensures { result ≡ Digits·digit d }
+    ensures { result ≡ digit d }
 {
     if d < 10 { 48 + d as u8 } else { 87 + d as u8 }
 }
@@ -42,7 +42,7 @@ fn digit(d: u64) -> u8
 // The last k digits of n.
 fn digits(out: &mut [u8], at: usize, base: u64, k: usize, n: u64) -> usize
     requires { (0 < base) × (base ≤ 16) }
-    ensures { says (Digits·digits base k n) out at result }
+    ensures { says (digits base k n) out at result }
 {
     if k == 0 {
         return at;
@@ -53,7 +53,7 @@ fn digits(out: &mut [u8], at: usize, base: u64, k: usize, n: u64) -> usize
 
 fn places(k: usize, n: u64) -> usize
     requires { k < 20 }
-    ensures { (result ≡ Digits·places k n) × (result ≤ k + 1) }
+    ensures { (result ≡ places k n) × (result ≤ k + 1) }
 {
     if k == 0 {
         return 1;
@@ -65,7 +65,7 @@ fn places(k: usize, n: u64) -> usize
 }
 
 pub fn decimal(out: &mut [u8], at: usize, n: u64) -> usize
-    ensures { says (Digits·decimal n) out at result }
+    ensures { says (decimal n) out at result }
 {
     digits(out, at, 10, places(19, n), n)
 }
