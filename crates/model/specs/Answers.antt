@@ -1,5 +1,6 @@
 -- What sizing and the assembly answer, and what the eight buffers then hold.
-use Rattle.model.specs.Base.{ℕ, Bool, not, ◌&&◌, List, [], ◌∷◌, ◌++◌, length, get_or, drop, ltb, Float, Verdict, Accepted, Refused, Answer, Refusal, Counts, FourCounts}
+use Rattle.std.specs.Prelude.{◌&&◌, ◌∷◌, ◌++◌}
+use Rattle.model.specs.Base.{ℕ, Bool, not, List, [], length, get_or, drop, ltb, Float, Verdict, Accepted, Refused, Answer, Refusal, Counts, FourCounts}
 use Rattle.model.specs.Problem.{Problem, objectives}
 use Rattle.model.specs.Verdicts.{◌then◌, refuse}
 use Rattle.model.specs.Refusals.{refusal}

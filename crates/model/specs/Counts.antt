@@ -1,5 +1,6 @@
 -- "Counts": document 01's closed formulas of the four counts, and its entry bound.
-use Rattle.model.specs.Base.{ℕ, ◌+◌, ◌-◌, ◌*◌, cond, List, [], ◌∷◌, get_or, Float, Objective, Time, ThermalEnergy, TotalVariationTorque, Linear, FourCounts}
+use Rattle.std.specs.Prelude.{◌+◌, ◌-◌, ◌*◌, ◌∷◌}
+use Rattle.model.specs.Base.{ℕ, cond, List, [], get_or, Float, Objective, Time, ThermalEnergy, TotalVariationTorque, Linear, FourCounts}
 use Rattle.model.specs.Numbers.{at, finite}
 use Rattle.model.specs.Lists.{sum_over, total}
 use Rattle.model.specs.Problem.{Problem, Path, Limits, objectives, n, m, L, ends, flag, has_root}

@@ -1,5 +1,6 @@
 -- "The ledger program": its fourteen cases, and the table that it prints. The proof is proofs/Ledger.antt.
-use Rattle.model.specs.Base.{ℕ, ◌*◌, List, [], ◌∷◌, ◌++◌, length, replicate, Float, nan, Objective, Time, ThermalEnergy, TotalVariationTorque, Linear, Answer, Refusal, Counts, FourCounts}
+use Rattle.std.specs.Prelude.{◌*◌, ◌∷◌, ◌++◌}
+use Rattle.model.specs.Base.{ℕ, List, [], length, replicate, Float, nan, Objective, Time, ThermalEnergy, TotalVariationTorque, Linear, Answer, Refusal, Counts, FourCounts}
 use Rattle.model.specs.Numbers.{+0, +1, +2, +3, +4, −1, +∞}
 use Rattle.model.specs.Problem.{Problem, objectives}
 use Rattle.model.specs.Counts.{counts}

@@ -2,7 +2,8 @@
 -- (proofs/Demand2.antt): a point of an accepted problem is feasible (Conic.antt) exactly if it satisfies `Meaning`, at the end of this page.
 -- Column c of the point is z c / D; A, X, E and t below are the columns a, xi, eta and t times D, as in request 14. Values are exact: `units x` is the double x in
 -- units of 2^−1074. A coefficient that the Rust rounds stands here rounded.
-use Rattle.model.specs.Base.{ℕ, ◌+◌, ◌-◌, ◌*◌, ◌^◌, ◌≤◌, ◌<◌, ◌≡◌, true, cond, List, [], ◌∷◌, get_or, take, ltb, ℤ, pos, ◌+ℤ◌, ◌-ℤ◌, ◌*ℤ◌, ◌≤ℤ◌, Float, neg, Bounds, Objective, Time, ThermalEnergy, TotalVariationTorque, Linear}
+use Rattle.std.specs.Prelude.{◌+◌, ◌-◌, ◌*◌, ◌^◌, ◌≤◌, ◌<◌, ◌≡◌, ◌∷◌, ◌+ℤ◌, ◌-ℤ◌, ◌*ℤ◌, ◌≤ℤ◌}
+use Rattle.model.specs.Base.{ℕ, true, cond, List, [], get_or, take, ltb, ℤ, pos, Float, neg, Bounds, Objective, Time, ThermalEnergy, TotalVariationTorque, Linear}
 use Rattle.model.specs.Numbers.{at, finite, ◌⊕◌, ◌⊖◌, ◌⊗◌, ◌⊘◌, +1, +4, −1½}
 use Rattle.model.specs.Lists.{list, total, part}
 use Rattle.model.specs.Problem.{Problem, Path, objectives, n, m, L, ends, flag, s, skip, stop, spacing, col_a, col_b, col_xi, has_root}

@@ -1,5 +1,6 @@
 -- "Floats round once per operation, in the order the Rust writes them": binary64's operations under short names, the constants that the Rust writes, its tests.
-use Rattle.model.specs.Base.{ℕ, Bool, true, false, not, ◌||◌, List, get_or, Float, nan, inf, fin, binary64, add, sub, mul, div, neg, lt, eq, of_bits}
+use Rattle.std.specs.Prelude.{◌||◌}
+use Rattle.model.specs.Base.{ℕ, Bool, true, false, not, List, get_or, Float, nan, inf, fin, binary64, add, sub, mul, div, neg, lt, eq, of_bits}
 
 infixl 65 ◌⊕◌
 infixl 65 ◌⊖◌

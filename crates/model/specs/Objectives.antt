@@ -1,5 +1,6 @@
 -- Module 1, and module 6: "Time, ThermalEnergy, TotalVariationTorque, Linear .., as `clarabel_objective_copp3` orders them." c is the objective's first own column.
-use Rattle.model.specs.Base.{ℕ, ◌+◌, ◌-◌, ◌*◌, cond, List, [], ◌∷◌, ◌++◌, get_or, set, replicate, sets, ltb, Float, nan, neg, Objective, Time, ThermalEnergy, TotalVariationTorque, Linear}
+use Rattle.std.specs.Prelude.{◌+◌, ◌-◌, ◌*◌, ◌∷◌, ◌++◌}
+use Rattle.model.specs.Base.{ℕ, cond, List, [], get_or, set, replicate, sets, ltb, Float, nan, neg, Objective, Time, ThermalEnergy, TotalVariationTorque, Linear}
 use Rattle.model.specs.Numbers.{at, ◌⊕◌, ◌⊖◌, ◌⊗◌, ◌⊘◌, +0, +1, −1, +2, +4, +5, +6, half, +1½}
 use Rattle.model.specs.Lists.{list, over, given, part}
 use Rattle.model.specs.Problem.{Problem, Path, Torque, Roots, n, m, L, ends, flag, skip, stop, s, col_a, col_b, col_xi}

@@ -1,5 +1,6 @@
 -- Request 6: who owns a row or a column. "The answer takes any index with a number of objectives".
-use Rattle.model.specs.Base.{ℕ, zero, suc, ◌+◌, ◌*◌, Bool, cond, ◌&&◌, List, [], ◌∷◌, length, get_or, ltb, leb, OwnerAnswer, StandardRows, RootStage, ObjectiveNumber, IndexTooShort, NotCovered}
+use Rattle.std.specs.Prelude.{◌+◌, ◌*◌, ◌&&◌, ◌∷◌}
+use Rattle.model.specs.Base.{ℕ, zero, suc, Bool, cond, List, [], length, get_or, ltb, leb, OwnerAnswer, StandardRows, RootStage, ObjectiveNumber, IndexTooShort, NotCovered}
 use Rattle.model.specs.Owners.{index_places}
 use Rattle.model.specs.Answers.{Told}
 

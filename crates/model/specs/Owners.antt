@@ -1,5 +1,6 @@
 -- Request 6: "When the solver blames a row, we want its owner: standard rows, root stage, or objective i." These are owners 0, 1 and 2 + i; each has a block of `blocks`.
-use Rattle.model.specs.Base.{ℕ, ◌+◌, ◌*◌, List, [], ◌∷◌, length, FourCounts}
+use Rattle.std.specs.Prelude.{◌+◌, ◌*◌, ◌∷◌}
+use Rattle.model.specs.Base.{ℕ, List, [], length, FourCounts}
 use Rattle.model.specs.Lists.{joined}
 use Rattle.model.specs.Problem.{Problem, n}
 use Rattle.model.specs.Program.{Band, Block, entries_from, right_sides}

@@ -1,5 +1,6 @@
 -- "a problem is the assembly's input without the output buffers", and the numbers that document 01 names after it. Tables go by their number.
-use Rattle.model.specs.Base.{ℕ, ◌+◌, ◌-◌, ◌*◌, max, min, Bool, true, false, ◌||◌, List, [], ◌∷◌, length, take, Float, Boundary, Bounds, Job, Objective, Time, ThermalEnergy, TotalVariationTorque, Linear}
+use Rattle.std.specs.Prelude.{◌+◌, ◌-◌, ◌*◌, ◌||◌, ◌∷◌}
+use Rattle.model.specs.Base.{ℕ, max, min, Bool, true, false, List, [], length, take, Float, Boundary, Bounds, Job, Objective, Time, ThermalEnergy, TotalVariationTorque, Linear}
 use Rattle.model.specs.Numbers.{at, ◌⊖◌}
 
 -- "The grid s has stations 0 to n. N0 and N1 are the stationary counts"

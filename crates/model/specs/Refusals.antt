@@ -1,5 +1,6 @@
 -- Refusals 1 to 18, in document 01's order.
-use Rattle.model.specs.Base.{ℕ, suc, ◌+◌, ◌-◌, ◌*◌, max, Bool, not, ◌&&◌, ◌||◌, List, [], ◌∷◌, length, take, get_or, ltb, leb, eqb, Float, lt, Boundary, Bounds, Objective, Time, ThermalEnergy, TotalVariationTorque, Linear, Verdict, Accepted}
+use Rattle.std.specs.Prelude.{◌+◌, ◌-◌, ◌*◌, ◌&&◌, ◌||◌, ◌∷◌}
+use Rattle.model.specs.Base.{ℕ, suc, max, Bool, not, List, [], length, take, get_or, ltb, leb, eqb, Float, lt, Boundary, Bounds, Objective, Time, ThermalEnergy, TotalVariationTorque, Linear, Verdict, Accepted}
 use Rattle.model.specs.Numbers.{at, finite, unusable, negative, is_zero, unfit, +0}
 use Rattle.model.specs.Lists.{total, part}
 use Rattle.model.specs.Problem.{Problem, Path, Limits, objectives, n, m, weight, some, is_thermal, is_torque, is_linear}

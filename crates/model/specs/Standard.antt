@@ -1,5 +1,6 @@
 -- Modules 2 to 5: the standard rows and the root stage.
-use Rattle.model.specs.Base.{ℕ, ◌+◌, ◌-◌, cond, List, [], ◌∷◌, ◌++◌, get_or, take, replicate, ltb, Float, neg, Boundary, Bounds}
+use Rattle.std.specs.Prelude.{◌+◌, ◌-◌, ◌∷◌, ◌++◌}
+use Rattle.model.specs.Base.{ℕ, cond, List, [], get_or, take, replicate, ltb, Float, neg, Boundary, Bounds}
 use Rattle.model.specs.Numbers.{at, finite, ◌⊕◌, ◌⊖◌, ◌⊗◌, ◌⊘◌, +0, +1, −1, −2, −1½, quarter, −quarter}
 use Rattle.model.specs.Lists.{list, over, given, total}
 use Rattle.model.specs.Problem.{Problem, Path, Limits, Acceleration, Jerk, n, m, L, skip, stop, s, spacing, col_a, col_b, col_xi, has_root}

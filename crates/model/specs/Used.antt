@@ -1,6 +1,7 @@
 -- "A number of tables 2 to 15, alpha or beta that no row or cost uses is never read; an end with count 0 has bounds that aren't read." Which numbers are used, and what two problems
 -- share that agree on them: sizing and the assembly answer both alike (proofs/Unread.antt, `unread`).
-use Rattle.model.specs.Base.{ℕ, ◌+◌, ◌*◌, ◌≤◌, ◌<◌, max, ◌≡◌, ◌⊎◌, List, length, get_or, take, Float, nan, Objective, Time, ThermalEnergy, TotalVariationTorque, Linear}
+use Rattle.std.specs.Prelude.{◌+◌, ◌*◌, ◌≤◌, ◌<◌, ◌≡◌, ◌⊎◌}
+use Rattle.model.specs.Base.{ℕ, max, List, length, get_or, take, Float, nan, Objective, Time, ThermalEnergy, TotalVariationTorque, Linear}
 use Rattle.model.specs.Numbers.{at}
 use Rattle.model.specs.Lists.{part, total}
 use Rattle.model.specs.Problem.{Problem, Path, Limits, Acceleration, Jerk, Torque, objectives, n}

@@ -1,10 +1,10 @@
 -- A page under its problem's own numbers, and the room for it.
-use Prim.Native.Nat.{ℕ}
-use mathlib.Core.Path.{◌≡◌, ap, ◌∙◌}
+use Prim.Native.Nat.{ℕ, ◌≤◌}
+use mathlib.Core.Path.{◌≡◌, sym, ap, ◌∙◌}
 use mathlib.Core.List.{List}
+use lib.ListN.{length, take}
+use lib.Seq.{length-take-le}
 use native.Mathlib.Omega.{arith}
-use Rattle.io.specs.Counts.{IsPrefixLen}
-use Rattle.io.proofs.Counting as Counting
 use Rattle.model.specs.Answers.{Buffers, answered, assembly}
 use Rattle.model.specs.declared.Answer.{Answer}
 use Rattle.model.specs.declared.Objective.{Objective}
@@ -25,5 +25,9 @@ module _ (i : ℕ) (a : Answer) (b : Buffers) {s c : ℕ} {o : List Objective}
   pub shown : {old new : List ℕ} {next : ℕ} → answered a b ≡ assembly (problem_at i) lent_here → Says (page_of s o c a b) old 0 new next → Shown i old new next
   shown e says = record { answer = a; after = b; assembled = e; says = renamed own says }
 
-pub counts : {t old new : List ℕ} {next : ℕ} → Says t old 0 new next → IsPrefixLen next new
-counts {t} {old} {new} {next} x = Counting.prefix_len_of_le next new (next_within x (omega arith))
+module _ {t old new : List ℕ} {next : ℕ} (x : Says t old 0 new next) where
+  pub in_bounds : next ≤ length new
+  in_bounds = next_within x (omega arith)
+
+  pub prefix_len : next ≡ length (take next new)
+  prefix_len = sym (length-take-le next new in_bounds)

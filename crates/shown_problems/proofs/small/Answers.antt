@@ -1,0 +1,7 @@
+use lib.Ieee.{of_bits, div}
+use Rattle.shown_problems.proofs.Shown.{small_assembled}
+use Rattle.shown_problems.proofs.small.Goals as goal
+
+pub returns : goal.returns
+unfolding of_bits div
+returns c = small_assembled _ c.objective_count_at.ensures c.job_with.ensures c.objectives_at.ensures c.assemble.ensures
