@@ -3,7 +3,7 @@
 # under AddressSanitizer and UndefinedBehaviorSanitizer. Then measures how much
 # stack a call takes, without them, and with every symbol bound at the start.
 #
-# COPP3_LIB_DIR is the folder of libcopp3_c.a, by default target/staticlib.
+# COPP3_LIB_DIR is the folder of libcopp3_c.a, by default target/staticlib, where c/build.sh puts it.
 set -eu
 here=$(cd "$(dirname "$0")" && pwd)
 lib=${COPP3_LIB_DIR:-$here/../target/staticlib}
