@@ -9,7 +9,6 @@ use lib.ListN.{get_or, replicate}
 use lib.IntN.{ℤ, pos, neg_ℤ, ◌+ℤ◌, ◌-ℤ◌, ◌*ℤ◌, zero-*ℤ}
 use lib.Signed.{◌≤ℤ◌, le_z_yes}
 use lib.Ieee.{binary64, of_bits}
-use lib.Ieee
 use Rattle.model.specs.Numbers.{finite, ◌⊗◌, +0, +1, +2, −2, +∞}
 use Rattle.model.specs.Problem.{Problem, Torque, L, skip, stop, spacing}
 use Rattle.model.specs.Refusals.{refusal}

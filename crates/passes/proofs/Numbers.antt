@@ -5,7 +5,7 @@ use mathlib.Core.List.{List}
 use Prim.Native.Nat.{ℕ, ◌+◌, ◌*◌}
 use lib.Ieee.{Float, neg, of_bits}
 use Rattle.model.specs.Lists.{list, joined}
-use Rattle.model.specs.Problem.{Problem, Path, objectives, n, L, s, has_root}
+use Rattle.model.specs.Problem.{Problem, Path, objectives, n, L, has_root}
 use Rattle.model.specs.Program.{Cone, positive_row, nothing}
 use Rattle.model.specs.Standard.{root_cone, root_stage, standard, root}
 use Rattle.model.specs.Answers.{every_finite}

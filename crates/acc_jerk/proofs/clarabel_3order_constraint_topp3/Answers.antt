@@ -1,7 +1,7 @@
-use Prim.Native.Nat.{◌+◌, ◌-◌}
+use Prim.Native.Nat.{◌+◌}
 use native.Mathlib.Omega.{arith}
 use Rattle.model.specs.Problem.{m}
-use Rattle.buffers.proofs.Laws.{overs_none, overs_more, overs_all, turns}
+use Rattle.buffers.proofs.Laws.{overs_none, overs_more, overs_all}
 use Rattle.acc_jerk.proofs.Sums.{before_next, before_within, shifted, start}
 use Rattle.acc_jerk.proofs.clarabel_3order_constraint_topp3.Goals as goal
 

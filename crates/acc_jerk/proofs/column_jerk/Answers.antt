@@ -1,7 +1,5 @@
-use Prim.Native.Nat.{◌-◌}
 use native.Mathlib.Omega.{arith}
 use Rattle.buffers.proofs.Laws.{stage, fills_more}
-use Rattle.acc_jerk.specs.Tables.{jerk_value}
 use Rattle.acc_jerk.proofs.column_jerk.Goals as goal
 
 pub loop-i-init : goal.loop-i-init

@@ -1,4 +1,3 @@
-use Prim.Native.Nat.{◌-◌}
 use native.Mathlib.Omega.{arith}
 use Rattle.acc_jerk.proofs.Sums.{before_next, before_within}
 use Rattle.acc_jerk.proofs.offset.Goals as goal

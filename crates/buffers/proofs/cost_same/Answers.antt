@@ -1,4 +1,3 @@
-use Prim.Native.Nat.{◌-◌}
 use Rattle.buffers.proofs.Laws.{stage}
 use Rattle.buffers.proofs.cost_same.Goals as goal
 

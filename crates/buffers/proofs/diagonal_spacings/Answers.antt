@@ -1,4 +1,3 @@
-use Prim.Native.Nat.{◌-◌}
 use native.Mathlib.Omega.{arith}
 use Rattle.buffers.proofs.Laws.{stage, fills_more}
 use Rattle.buffers.proofs.diagonal_spacings.Goals as goal

@@ -1,4 +1,3 @@
-use Prim.Native.Nat.{◌-◌}
 use native.Mathlib.Omega.{arith}
 use Rattle.model.specs.Program.{positive_row}
 use Rattle.buffers.proofs.Laws.{lists_more, turns}

@@ -1,6 +1,5 @@
 use native.Mathlib.Omega.{arith}
 use Rattle.owners.proofs.Known.{objective_known}
-use Rattle.copp3_c.specs.Exported.{owner_record}
 use Rattle.copp3_c.proofs.copp3_owner_of_column.Goals as goal
 
 pub owner_record-requires : goal.owner_record-requires

@@ -1,4 +1,3 @@
-use Prim.Native.Nat.{◌-◌}
 use native.Mathlib.Omega.{arith}
 use Rattle.finiteness.proofs.Laws.{each_more, each_zero}
 use Rattle.finite_objectives.specs.Tests.{joint_test}

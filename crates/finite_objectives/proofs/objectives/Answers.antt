@@ -1,4 +1,3 @@
-use Prim.Native.Nat.{◌-◌}
 use native.Mathlib.Omega.{arith}
 use Rattle.finite_objectives.proofs.Costs.{tested_none, tested_more}
 use Rattle.finite_objectives.proofs.objectives.Goals as goal

@@ -1,4 +1,3 @@
-use Prim.Native.Nat.{◌-◌}
 use Rattle.model.specs.Problem.{stop}
 use Rattle.buffers.specs.Inputs.{path, torque_of}
 use Rattle.finite_objectives.proofs.Torque.{thermal_scanned}

@@ -1,5 +1,4 @@
 use native.Mathlib.Omega.{arith}
-use Prim.Native.Nat.{◌-◌}
 use Rattle.model.specs.Problem.{stop}
 use Rattle.buffers.specs.Inputs.{path, torque_of}
 use Rattle.finite_objectives.proofs.Torque.{torque_scanned, own_columns}

@@ -1,4 +1,4 @@
-use Prim.Native.Nat.{◌+◌, ◌-◌}
+use Prim.Native.Nat.{◌+◌}
 use native.Mathlib.Omega.{arith}
 use Rattle.finiteness.proofs.Laws.{each_more, each_all}
 use Rattle.finite_standard.proofs.AccJerk.{over_scanned}

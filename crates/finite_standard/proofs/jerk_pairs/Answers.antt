@@ -1,4 +1,3 @@
-use Prim.Native.Nat.{◌-◌}
 use native.Mathlib.Omega.{arith}
 use Rattle.finiteness.proofs.Laws.{each_more}
 use Rattle.finite_standard.proofs.jerk_pairs.Goals as goal

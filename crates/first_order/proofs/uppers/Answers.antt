@@ -1,7 +1,6 @@
-use Prim.Native.Nat.{◌-◌}
 use native.Mathlib.Omega.{arith}
 use Rattle.model.specs.Problem.{m}
-use Rattle.buffers.proofs.Laws.{overs_none, overs_more, overs_all, turns}
+use Rattle.buffers.proofs.Laws.{overs_none, overs_more, overs_all}
 use Rattle.first_order.proofs.uppers.Goals as goal
 
 pub loop-i-init : goal.loop-i-init

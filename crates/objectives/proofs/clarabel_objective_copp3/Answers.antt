@@ -1,5 +1,4 @@
 use native.Mathlib.Omega.{arith}
-use Prim.Native.Nat.{◌-◌}
 use Rattle.objectives.proofs.Owned.{owned_none, owned_more, owned_owner, built_grows}
 use Rattle.objectives.proofs.clarabel_objective_copp3.Goals as goal
 

@@ -1,9 +1,8 @@
-use Prim.Native.Nat.{ℕ, ◌-◌, ◌<◌}
+use Prim.Native.Nat.{ℕ, ◌<◌}
 use mathlib.Core.Path.{subst}
 use native.Mathlib.Omega.{arith}
 use lib.ListN.{length}
 use Rattle.model.specs.Problem.{L}
-use Rattle.model.specs.Standard.{root_cone}
 use Rattle.buffers.proofs.Laws.{turns_none, turns_all}
 use Rattle.buffers.proofs.Blocks.{turns_next}
 use Rattle.columns.proofs.Xi.{xi_in, xi_le}

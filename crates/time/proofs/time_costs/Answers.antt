@@ -1,8 +1,8 @@
-use Prim.Native.Nat.{ℕ, ◌-◌, ◌<◌}
+use Prim.Native.Nat.{ℕ, ◌<◌}
 use mathlib.Core.Path.{subst, ap}
 use native.Mathlib.Omega.{arith}
 use lib.ListN.{length}
-use Rattle.model.specs.Numbers.{at, ◌⊗◌}
+use Rattle.model.specs.Numbers.{◌⊗◌}
 use Rattle.model.specs.Problem.{L, skip}
 use Rattle.buffers.proofs.Laws.{cost_none, cost_all}
 use Rattle.buffers.proofs.Blocks.{cost_next}
