@@ -1,10 +1,7 @@
-use Prim.Native.Nat.{◌-◌, ◌≤◌}
+use Prim.Native.Nat.{◌≤◌}
 use Rattle.model.specs.Program.{positive_row}
 use Rattle.buffers.specs.Buffers.{Lists}
 use Rattle.buffers.proofs.positive.Given as goal
 
 abbrev pub invariant-loop-i : goal.invariant-loop-i
 invariant-loop-i l = (l.i ≤ l.count) × Lists l.initial.u l.initial.rows l.initial.columns l.initial.values l.initial.right l.u l.rows l.columns l.values l.right positive_row l.from.at l.i 1
-
-abbrev pub decreases-loop-i : goal.decreases-loop-i
-decreases-loop-i l = l.count - l.i

@@ -1,4 +1,4 @@
-use Prim.Native.Nat.{◌+◌, ◌-◌, ◌≤◌}
+use Prim.Native.Nat.{◌+◌, ◌≤◌}
 use Rattle.finiteness.specs.Finite.{Each}
 use Rattle.finite_objectives.specs.Tests.{thermal_at}
 use Rattle.buffers.specs.Inputs.{torque_of}
@@ -6,6 +6,3 @@ use Rattle.finite_objectives.proofs.thermal_moving.Given as goal
 
 abbrev pub invariant-loop-j : goal.invariant-loop-j
 invariant-loop-j l = (l.j ≤ l.count) × Each l.ok (λ k. thermal_at (torque_of l.d l.torque_a l.torque_b l.torque_g) l.scales l.thermal l.weight (l.first + k)) 0 l.j
-
-abbrev pub decreases-loop-j : goal.decreases-loop-j
-decreases-loop-j l = l.count - l.j

@@ -1,5 +1,4 @@
-use Prim.Native.Nat.{◌-◌, ◌≤◌}
-use Rattle.model.specs.Problem.{m}
+use Prim.Native.Nat.{◌≤◌}
 use Rattle.model.specs.Standard.{interval_rows}
 use Rattle.buffers.specs.Inputs.{path}
 use Rattle.buffers.specs.Buffers.{Overs}
@@ -7,6 +6,3 @@ use Rattle.first_order.proofs.clarabel_interval_a_constraint_topp3.Given as goal
 
 abbrev pub invariant-loop-i : goal.invariant-loop-i
 invariant-loop-i l = (l.i ≤ l.count) × Overs l.initial.u l.initial.rows l.initial.columns l.initial.values l.initial.right l.u l.rows l.columns l.values l.right (interval_rows (path l.grid l.ends)) l.ends.n0 l.i 2
-
-abbrev pub decreases-loop-i : goal.decreases-loop-i
-decreases-loop-i l = l.count - l.i

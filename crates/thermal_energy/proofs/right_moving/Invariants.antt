@@ -1,4 +1,4 @@
-use Prim.Native.Nat.{◌-◌, ◌≤◌}
+use Prim.Native.Nat.{◌≤◌}
 use lib.Ieee.{neg}
 use Rattle.buffers.specs.Buffers.{FillsRight}
 use Rattle.thermal_energy.specs.Cones.{scaled_at}
@@ -6,6 +6,3 @@ use Rattle.thermal_energy.proofs.right_moving.Given as goal
 
 abbrev pub invariant-loop-i : goal.invariant-loop-i
 invariant-loop-i l = (l.i ≤ l.d) × FillsRight l.initial.u l.initial.right l.u l.right (λ j. neg (scaled_at l.torque_g l.scales l.d l.k j)) l.i
-
-abbrev pub decreases-loop-i : goal.decreases-loop-i
-decreases-loop-i l = l.d - l.i

@@ -1,6 +1,5 @@
 use Rattle.replay_list.proofs.Decoded.{agreed}
 use mathlib.Core.Path.{sym, ◌∙◌}
-use borrow.Author.Tests.{not-false}
 use Rattle.replay_list.proofs.case.case_agrees.Goals as goal
 
 pub returns : goal.returns

@@ -1,5 +1,3 @@
-use mathlib.Core.Path.{◌≡◌}
-use Rattle.replay_list.specs.Format.{case_end}
 use Rattle.replay_list.proofs.Decoded.{end_of, cut_off, at_hand}
 use Rattle.replay_list.proofs.Laws.{never}
 use Rattle.replay_list.proofs.case.replay_case.Goals as goal

@@ -3,8 +3,6 @@ use Rattle.replay_list.proofs.Laws.{filled, stored}
 use lib.Ieee.{nan}
 use lib.ListN.{length-set}
 use native.Mathlib.Omega.{arith}
-use Prim.Native.Nat.{◌-◌}
-use lib.ListN.{length}
 use Rattle.replay_list.proofs.input.read_floats.Goals as goal
 
 pub loop-i-preserved : goal.loop-i-preserved

@@ -1,6 +1,5 @@
 use Rattle.replay_list.proofs.Laws.{filled}
 use native.Mathlib.Omega.{arith}
-use Prim.Native.Nat.{◌-◌}
 use Rattle.replay_list.proofs.input.read_numbers.Goals as goal
 
 pub returns : goal.returns

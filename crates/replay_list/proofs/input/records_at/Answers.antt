@@ -5,7 +5,6 @@ use Rattle.copp3_c.specs.declared.ObjectiveRecord.{ObjectiveRecord}
 use Rattle.copp3_c.specs.declared.ObjectiveRecords.{ObjectiveRecords}
 use native.Mathlib.Omega.{arith}
 use mathlib.Core.Path.{ap}
-use Prim.Native.Nat.{◌-◌}
 use Rattle.replay_list.proofs.input.records_at.Goals as goal
 
 abbrev from : List ObjectiveRecord → ObjectiveRecords

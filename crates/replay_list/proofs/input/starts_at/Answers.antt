@@ -6,8 +6,7 @@ use lib.ListN.{length-set}
 use borrow.Author.Count.{below_more, below_none}
 use native.Mathlib.Omega.{arith}
 use mathlib.Core.Path.{◌∙◌}
-use Prim.Native.Nat.{◌+◌, ◌-◌}
-use lib.ListN.{length}
+use Prim.Native.Nat.{◌+◌}
 use Rattle.replay_list.proofs.input.starts_at.Goals as goal
 
 pub loop-k-init : goal.loop-k-init
