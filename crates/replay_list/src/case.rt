@@ -1,6 +1,7 @@
 // Replays a case: decodes it, calls sizing and the assembly, and compares.
 ghost use Rattle.std.specs.Prelude.{◌≡◌, true, ◌≤◌, leb, get_or};
-ghost use Rattle.model.specs.Lent.{at_entry, buffers_before};
+ghost use Rattle.model.specs.Answers.{buffers};
+ghost use Rattle.model.specs.Lent.{at_entry};
 ghost use Rattle.copp3_c.specs.Exported.{exported};
 ghost use Rattle.replay_list.specs.File.{item_at};
 ghost use Rattle.replay_list.specs.Format.{part, list_in, starts_at, places_at, problem_with, sizing_at, assembly_at, index_written, held_at};
@@ -138,7 +139,7 @@ fn buffers_agree(
     cost: &[f64; 128],
     index: &[usize; 160],
 ) -> bool
-    ensures { result ≡ true → BuffersHold (at_entry s) at counts written places_here (buffers_before rows columns values right kinds dimensions cost index) }
+    ensures { result ≡ true → BuffersHold (at_entry s) at counts written places_here (buffers rows.now columns.now values.now right.now kinds.now dimensions.now cost.now index.now) }
 {
     let held = held_at(at, counts, written);
     let entries = numbers_agree(s, at, counts.entries, rows)
@@ -168,7 +169,7 @@ fn result_agrees(
     cost: &[f64; 128],
     index: &[usize; 160],
 ) -> bool
-    ensures { result ≡ true → ResultAgrees (at_entry s) places count places_here (exported answer (buffers_before rows columns values right kinds dimensions cost index)) }
+    ensures { result ≡ true → ResultAgrees (at_entry s) places count places_here (exported answer (buffers rows.now columns.now values.now right.now kinds.now dimensions.now cost.now index.now)) }
 {
     let expected = assembly_at(s, places.answers);
     let written = index_written(count, expected);

@@ -1,0 +1,11 @@
+use Rattle.replay_list.proofs.Laws.{part_past, part_none, part_within}
+use Rattle.replay_list.proofs.input.floats_part.Goals as goal
+
+pub returns-then-s-to : goal.returns-then-s-to
+returns-then-s-to c = part_past _ _ _ c.if-s-to.true
+
+pub returns-then-to-from : goal.returns-then-to-from
+returns-then-to-from c = part_none _ _ _ c.if-s-to.false c.if-to-from.true
+
+pub returns : goal.returns
+returns c = part_within _ _ _ c.if-s-to.false
