@@ -19,10 +19,7 @@ ghost use Rattle.objectives.specs.Owned.{built_owners};
 use buffers::put_owner;
 use model::{Ends, Job, Objective, Tally};
 use objectives::clarabel_objective_copp3;
-use stages::{
-    linear_by_value as linear, root_stage_by_value as root_stage,
-    standard_rows_by_value as standard_rows,
-};
+use stages::{linear_by_value, root_stage_by_value, standard_rows_by_value};
 
 // The cost of the a and b columns, which Linear alone charges, and the standard rows.
 pub fn standard_block(
@@ -55,7 +52,7 @@ pub fn standard_block(
     ensures { built t rows columns values right kinds dimensions cost result (standard_lent job objectives grid acc_rows jerk_rows amax acc_a acc_b acc_max jerk_a jerk_b jerk_c jerk_max start_roots end_roots pool) (standard_block_room (length (at_entry grid))) }
 {
     let ends = job.ends;
-    let t = linear(
+    let t = linear_by_value(
         t,
         cost,
         grid,
@@ -69,7 +66,7 @@ pub fn standard_block(
     let boundary = job.boundary;
     let start = job.start;
     let end = job.end;
-    standard_rows(
+    standard_rows_by_value(
         t, rows, columns, values, right, kinds, dimensions, grid, ends, amax, acc_rows, acc_a,
         acc_b, acc_max, jerk_rows, jerk_a, jerk_b, jerk_c, jerk_max, boundary, start, end,
     )
@@ -101,7 +98,7 @@ pub fn objective_blocks(
     let ends = job.ends;
     let d = job.d;
     let count = job.count;
-    let u = root_stage(
+    let u = root_stage_by_value(
         t, rows, columns, values, right, kinds, dimensions, cost, grid, ends, objectives, count,
     );
     let u = put_owner(t, u, index);

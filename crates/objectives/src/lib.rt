@@ -17,10 +17,7 @@ ghost use Rattle.objectives.specs.Owned.{built_owners};
 
 use buffers::put_owner;
 use model::{Ends, Objective, Tally};
-use stages::{
-    thermal_energy_by_value as thermal_energy, time_by_value as time,
-    total_variation_torque_by_value as tv_torque,
-};
+use stages::{thermal_energy_by_value, time_by_value, total_variation_torque_by_value};
 
 // One objective. Linear has no rows: what it adds to the cost stands there from the start.
 fn objective(
@@ -46,19 +43,19 @@ fn objective(
     ensures { built t rows columns values right kinds dimensions cost result (objective_block (lends (path (at_entry grid) ends) (at_entry thermal) (torque_of d (at_entry torque_a) (at_entry torque_b) (at_entry torque_g)) (at_entry pool)) t.columns.at o) objective_room }
 {
     match o {
-        Objective::Time(w) => time(
+        Objective::Time(w) => time_by_value(
             t, rows, columns, values, right, kinds, dimensions, cost, grid, ends, w,
         ),
         Objective::ThermalEnergy { weight, start, len } => {
             let x = &pool[start..start + len];
-            thermal_energy(
+            thermal_energy_by_value(
                 t, rows, columns, values, right, kinds, dimensions, cost, grid, ends, thermal,
                 torque_a, torque_b, torque_g, x, d, weight,
             )
         }
         Objective::TotalVariationTorque { weight, start, len } => {
             let x = &pool[start..start + len];
-            tv_torque(
+            total_variation_torque_by_value(
                 t, rows, columns, values, right, kinds, dimensions, cost, grid, ends, torque_a,
                 torque_b, torque_g, x, d, weight,
             )
