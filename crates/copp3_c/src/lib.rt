@@ -100,6 +100,7 @@ fn counting(count: usize) -> usize
 }
 
 // Whether each kind that counts is known.
+#[tactic(auto, using(crate::proofs::KindCheck::unknown_refused))]
 fn kind_check(items: [ObjectiveRecord; 16], count: usize) -> Verdict
     ensures { result ≡ kind_refusal count items }
 {
