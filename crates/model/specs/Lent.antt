@@ -4,6 +4,9 @@
 use Rattle.model.specs.Base.{ℕ, List, Float, Job, Objective}
 use Rattle.model.specs.Problem.{Problem, problem}
 use Rattle.model.specs.Answers.{Buffers, buffers}
+use Rattle.model.specs.declared.Problem.{Problem as LentProblem}
+use Rattle.model.specs.declared.Buffers.{Buffers as LentBuffers}
+use Rattle.std.specs.Prelude.{◌≡◌}
 use Rattle.std.specs.Borrow.{Bor, MutBor}
 use denote.Triple.Both.{Both}
 
@@ -48,3 +51,24 @@ buffers_before rows columns values right kinds dimensions cost index =
 abbrev pub buffers_after : LentMut ℕ → LentMut ℕ → LentMut Float → LentMut Float → LentMut ℕ → LentMut ℕ → LentMut Float → LentMut ℕ → Buffers
 buffers_after rows columns values right kinds dimensions cost index =
     buffers (at_exit rows) (at_exit columns) (at_exit values) (at_exit right) (at_exit kinds) (at_exit dimensions) (at_exit cost) (at_exit index)
+
+-- the same of the struct that holds what was lent
+abbrev pub problem_of : LentProblem → Problem
+problem_of p =
+    problem p.job p.objectives p.grid.now p.acceleration.rows.now p.jerk.rows.now p.amax.now p.acceleration.a.now p.acceleration.b.now p.acceleration.max.now
+    p.jerk.a.now p.jerk.b.now p.jerk.c.now p.jerk.max.now p.thermal.now p.torque.a.now p.torque.b.now p.torque.g.now p.roots.start.now p.roots.end.now p.pool.now
+
+-- what the buffers of a struct hold
+abbrev pub buffers_of : LentBuffers → Buffers
+buffers_of b = buffers b.rows.now b.columns.now b.values.now b.right.now b.kinds.now b.dimensions.now b.cost.now b.index.now
+
+-- The struct still holds the buffers that it held: a writer stores into them and puts no others in their place.
+pub record SameBuffers (b c : LentBuffers) : Type 0 where
+  pub rows : c.rows.ghost_name ≡ b.rows.ghost_name
+  pub columns : c.columns.ghost_name ≡ b.columns.ghost_name
+  pub values : c.values.ghost_name ≡ b.values.ghost_name
+  pub right : c.right.ghost_name ≡ b.right.ghost_name
+  pub kinds : c.kinds.ghost_name ≡ b.kinds.ghost_name
+  pub dimensions : c.dimensions.ghost_name ≡ b.dimensions.ghost_name
+  pub cost : c.cost.ghost_name ≡ b.cost.ghost_name
+  pub index : c.index.ghost_name ≡ b.index.ghost_name

@@ -131,3 +131,73 @@ pub enum OwnerAnswer {
     IndexTooShort,
     NotCovered,
 }
+
+// What a cone holds its slacks to: document 01's kinds 0, 1 and 2.
+#[derive(Clone, Copy)]
+pub enum ConeKind {
+    Zero,
+    Nonnegative,
+    SecondOrder,
+}
+
+// Tables 0 and 3 to 5: how many acceleration rows each station has, and their numbers, station by station.
+#[derive(Clone, Copy)]
+pub struct Acceleration<'a> {
+    pub rows: &'a [u32],
+    pub a: &'a [f64],
+    pub b: &'a [f64],
+    pub max: &'a [f64],
+}
+
+// Tables 1 and 6 to 9, of the jerk rows.
+#[derive(Clone, Copy)]
+pub struct Jerk<'a> {
+    pub rows: &'a [u32],
+    pub a: &'a [f64],
+    pub b: &'a [f64],
+    pub c: &'a [f64],
+    pub max: &'a [f64],
+}
+
+// Tables 11 to 13: d torque coefficients for each station, station by station.
+#[derive(Clone, Copy)]
+pub struct Torque<'a> {
+    pub a: &'a [f64],
+    pub b: &'a [f64],
+    pub g: &'a [f64],
+}
+
+// Tables 14 and 15.
+#[derive(Clone, Copy)]
+pub struct Roots<'a> {
+    pub start: &'a [f64],
+    pub end: &'a [f64],
+}
+
+// A problem as it is lent: what the job says, the 16 objectives, the grid, the tables, and the pool that holds the objectives' lists.
+#[derive(Clone, Copy)]
+pub struct Problem<'a> {
+    pub job: Job,
+    pub objectives: [Objective; 16],
+    pub grid: &'a [f64],
+    pub acceleration: Acceleration<'a>,
+    pub jerk: Jerk<'a>,
+    pub amax: &'a [f64],
+    pub thermal: &'a [f64],
+    pub torque: Torque<'a>,
+    pub roots: Roots<'a>,
+    pub pool: &'a [f64],
+}
+
+// Buffers 0 to 6, and the index.
+#[derive(Drop)]
+pub struct Buffers<'a> {
+    pub rows: &'a mut [u32],
+    pub columns: &'a mut [u32],
+    pub values: &'a mut [f64],
+    pub right: &'a mut [f64],
+    pub kinds: &'a mut [u8],
+    pub dimensions: &'a mut [u32],
+    pub cost: &'a mut [f64],
+    pub index: &'a mut [usize],
+}
