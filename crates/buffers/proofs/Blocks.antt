@@ -1,26 +1,23 @@
 -- Loops from 0 on, lists that start further on, costs and blocks.
 use mathlib.Core.Path.{◌≡◌, refl, sym, ap, subst, ◌∙◌}
-use mathlib.Core.List.{List, [], ◌∷◌, map}
-use lib.ListN.{length}
-use lib.Seq.{length-sets}
+use mathlib.Core.List.{List, [], ◌∷◌}
 use Prim.Native.Nat.{ℕ, zero, suc, ◌+◌}
 use native.Mathlib.Omega.{arith}
 use native.Mathlib.Nat.{add-zero, zero-add, add-suc}
 use lib.Ieee.{Float}
 use Rattle.model.specs.Lists.{list}
-use Rattle.model.specs.Program.{Cone, Block, Cell, nothing, dimension, entries_from, right_sides}
+use Rattle.model.specs.Program.{Cone, Cell, nothing}
 use Rattle.model.specs.declared.Tally.{Tally}
-use Rattle.buffers.specs.Buffers.{emit, bands_of, Closed, ClosedList, State, Built, Costs, FillsCost, PutsCost}
-use Rattle.buffers.proofs.Laws.{turns_more, cost_more, emit_none}
+use Rattle.model.specs.declared.Buffers.{Buffers}
+use Rattle.buffers.specs.Buffers.{chunk, Closed, ClosedList, State, Built, Builds, Costs, FillsCost, PutsCost}
+use Rattle.buffers.proofs.Laws.{turns_more, cost_more, emit_none, lays_as, same_refl}
 
-module _ {t : Tally} {R C : List ℕ} {W H : List Float} {K D : List ℕ} {f : ℕ → Cone} {b : ℕ} {t' : Tally} {R' C' : List ℕ} {W' H' : List Float} {K' D' : List ℕ} {i : ℕ} {t'' : Tally}
-    {R'' C'' : List ℕ} {W'' H'' : List Float} {K'' D'' : List ℕ} where
-  pub turns_next : ClosedList t R C W H K D t' R' C' W' H' K' D' f 0 i b → Closed t' R' C' W' H' K' D' t'' R'' C'' W'' H'' K'' D'' (f i ∷ []) b
-      → ClosedList t R C W H K D t'' R'' C'' W'' H'' K'' D'' f 0 (i + 1) b
-  turns_next p g = turns_more p (subst (λ (n : ℕ). Closed t' R' C' W' H' K' D' t'' R'' C'' W'' H'' K'' D'' (f n ∷ []) b) (sym (zero-add i)) g)
+pub turns_next : {t : Tally} {b : Buffers} {f : ℕ → Cone} {n : ℕ} {t' : Tally} {b' : Buffers} {i : ℕ} {t'' : Tally} {b'' : Buffers}
+    → ClosedList t b t' b' f 0 i n → Closed t' b' t'' b'' (f i ∷ []) n → ClosedList t b t'' b'' f 0 (i + 1) n
+turns_next {f} {n} {t'} {b'} {i} {t''} {b''} p g = turns_more p (subst (λ (u : ℕ). Closed t' b' t'' b'' (f u ∷ []) n) (sym (zero-add i)) g)
 
-pub cost_next : {t : Tally} {Q : List Float} {f : ℕ → Float} {t' : Tally} {Q' : List Float} {i : ℕ} {t'' : Tally} {Q'' : List Float} {v : Float}
-    → FillsCost t Q t' Q' f 0 i → PutsCost t' Q' t'' Q'' v → v ≡ f i → FillsCost t Q t'' Q'' f 0 (i + 1)
+pub cost_next : {t : Tally} {b : Buffers} {f : ℕ → Float} {t' : Tally} {b' : Buffers} {i : ℕ} {t'' : Tally} {b'' : Buffers} {v : Float}
+    → FillsCost t b t' b' f 0 i → PutsCost t' b' t'' b'' v → v ≡ f i → FillsCost t b t'' b'' f 0 (i + 1)
 cost_next {f} {i} {v} p g e = cost_more p g (e ∙ ap f (sym (zero-add i)))
 
 from_go : {A : Type 0} (f : ℕ → A) (k j c : ℕ) → list f (k + j) c ≡ list (λ i. f (k + i)) j c
@@ -31,8 +28,8 @@ pub list_from : {A : Type 0} (f : ℕ → A) (k c : ℕ) → list f k c ≡ list
 list_from f k c = ap (λ (z : ℕ). list f z c) (sym (add-zero k)) ∙ from_go f k 0 c
 
 -- costs, otherwise written
-pub costs_as : {t t' : Tally} {Q Q' xs ys : List Float} → Costs t Q t' Q' xs → xs ≡ ys → Costs t Q t' Q' ys
-costs_as {t} {t'} {Q} {Q'} p e = subst (λ (l : List Float). Costs t Q t' Q' l) e p
+pub costs_as : {t t' : Tally} {b b' : Buffers} {xs ys : List Float} → Costs t b t' b' xs → xs ≡ ys → Costs t b t' b' ys
+costs_as p e = record { lays = lays_as p.lays (ap (λ (l : List Float). chunk [] [] [] l) e) }
 
 -- a block that is left out
 pub built_skip : {s : State} {b : ℕ} → Built s s nothing b
@@ -43,32 +40,10 @@ pub built_cost : {s s' : State} {cs : List Cone} {xs zs : List Float} {ys : List
     → Built s s' (record { cones = cs; cost = xs; charges = ys }) b → xs ≡ zs → Built s s' (record { cones = cs; cost = zs; charges = ys }) b
 built_cost {s} {s'} {cs} {ys} {b} p e = subst (λ (l : List Float). Built s s' (record { cones = cs; cost = l; charges = ys }) b) e p
 
--- a block keeps the lengths
-module _ {s s' : State} {x : Block} {b : ℕ} (p : Built s s' x b) where
-  pub built_rows : length s'.rows ≡ length s.rows
-  unfolding emit
-  built_rows = ap (λ u. length u.rows) p.says ∙ length-sets s.rows s.tally.entries (map (λ e. e.row) (entries_from s.tally.rows.at (bands_of x.cones)))
+-- the same of the buffers that were lent
+pub builds_skip : {t : Tally} {b : Buffers} {n : ℕ} → Builds t b t b nothing n
+builds_skip {t} {b} = record { same = same_refl b; index = refl; built = built_skip }
 
-  pub built_columns : length s'.columns ≡ length s.columns
-  unfolding emit
-  built_columns = ap (λ u. length u.columns) p.says ∙ length-sets s.columns s.tally.entries (map (λ e. e.column) (entries_from s.tally.rows.at (bands_of x.cones)))
-
-  pub built_values : length s'.values ≡ length s.values
-  unfolding emit
-  built_values = ap (λ u. length u.values) p.says ∙ length-sets s.values s.tally.entries (map (λ e. e.value) (entries_from s.tally.rows.at (bands_of x.cones)))
-
-  pub built_right : length s'.right ≡ length s.right
-  unfolding emit
-  built_right = ap (λ u. length u.right) p.says ∙ length-sets s.right s.tally.rows.at (right_sides (bands_of x.cones))
-
-  pub built_kinds : length s'.kinds ≡ length s.kinds
-  unfolding emit
-  built_kinds = ap (λ u. length u.kinds) p.says ∙ length-sets s.kinds s.tally.cones (map (λ c. c.kind) x.cones)
-
-  pub built_dimensions : length s'.dimensions ≡ length s.dimensions
-  unfolding emit
-  built_dimensions = ap (λ u. length u.dimensions) p.says ∙ length-sets s.dimensions s.tally.cones (map dimension x.cones)
-
-  pub built_costs : length s'.cost ≡ length s.cost
-  unfolding emit
-  built_costs = ap (λ u. length u.cost) p.says ∙ length-sets s.cost s.tally.columns.at x.cost
+pub builds_cost : {t : Tally} {b : Buffers} {t' : Tally} {b' : Buffers} {cs : List Cone} {xs zs : List Float} {ys : List Cell} {n : ℕ}
+    → Builds t b t' b' (record { cones = cs; cost = xs; charges = ys }) n → xs ≡ zs → Builds t b t' b' (record { cones = cs; cost = zs; charges = ys }) n
+builds_cost p e = record { same = p.same; index = p.index; built = built_cost p.built e }

@@ -8,16 +8,20 @@ use native.Mathlib.Numerals.{add-one}
 use native.Mathlib.Omega.{arith}
 use lib.Ieee.{Float}
 use borrow.Author.Rules.{rules}
-use lib.ListN.{length, set, replicate, length-append, length-map}
-use lib.Seq.{sets, length-sets}
+use lib.ListN.{length, set, replicate, length-append, length-map, take}
+use lib.Seq.{sets}
 use Rattle.model.specs.Numbers.{finite}
 use Rattle.model.specs.Lists.{list, over, joined}
 use Rattle.model.specs.Program.{Cell, cell, Band, band, Cone, cone, Entry, entry, dimension, entries_from, right_sides}
 use Rattle.model.specs.Assembled.{all_finite}
 use Rattle.model.proofs.Shape.{heights, right_heights, entries_append, right_append}
 use Rattle.model.proofs.Sums.{joined-append}
+use Rattle.model.specs.Lent.{SameBuffers}
 use Rattle.model.specs.declared.Tally.{Tally}
-use Rattle.buffers.specs.Buffers.{Chunk, chunk, none, join, bands_of, of_bands, of_cones, State, state, tally_of, emit, Adds, Fills, Puts, Rights, FillsRight, PutsRight, Columns, Wrote, Overs, Lists, PutsCone, Closed, ClosedList, Costs, PutsCost, FillsCost, Built}
+use Rattle.model.specs.declared.Buffers.{Buffers}
+use Rattle.model.specs.declared.Term.{Term}
+use Rattle.buffers.specs.Buffers.{Chunk, chunk, none, join, bands_of, of_bands, of_cones, State, state_of, tally_of, emit, Lays, Fills, Puts, FillsRight, PutsRight, Columns, Wrote, Overs, Lists, PutsCone, Closed, ClosedList, Costs, PutsCost, FillsCost, Builds}
+use Rattle.buffers.specs.Lent.{constant_cells}
 
 -- ---- lists
 
@@ -99,23 +103,44 @@ join_cones r xs ys =
     ((sym (entries_append r (bands_of xs) (bands_of ys)) ∙ ap (entries_from r) (sym (joined-append (λ c. c.bands) xs ys))) i)
     ((sym (right_append (bands_of xs) (bands_of ys)) ∙ ap right_sides (sym (joined-append (λ c. c.bands) xs ys))) i) (xs ++ ys) []
 
+-- ---- the buffers stay the same ones
+
+pub same_refl : (b : Buffers) → SameBuffers b b
+same_refl b = record { rows = refl; columns = refl; values = refl; right = refl; kinds = refl; dimensions = refl; cost = refl; index = refl }
+
+pub same_then : {b c d : Buffers} → SameBuffers b c → SameBuffers c d → SameBuffers b d
+same_then p q =
+    record {
+      rows = q.rows ∙ p.rows;
+      columns = q.columns ∙ p.columns;
+      values = q.values ∙ p.values;
+      right = q.right ∙ p.right;
+      kinds = q.kinds ∙ p.kinds;
+      dimensions = q.dimensions ∙ p.dimensions;
+      cost = q.cost ∙ p.cost;
+      index = q.index ∙ p.index;
+    }
+
 -- ---- the leaves
 
-pub one_entry : {R C : List ℕ} {W : List Float} {t : Tally} {R' C' : List ℕ} {W' : List Float} {r c : ℕ} {v : Float}
-    → R' ≡ set R t.entries r → C' ≡ set C t.entries c → W' ≡ set W t.entries v
-    → Puts t R C W (record { entries = t.entries + 1; rows = t.rows; cones = t.cones; columns = t.columns; owner = t.owner }) R' C' W' (entry r (cell c v))
+pub one_entry : {b b' : Buffers} {t : Tally} {r c : ℕ} {v : Float}
+    → SameBuffers b b' → b'.rows.now ≡ set b.rows.now t.entries r → b'.columns.now ≡ set b.columns.now t.entries c → b'.values.now ≡ set b.values.now t.entries v
+    → b'.right.now ≡ b.right.now → b'.kinds.now ≡ b.kinds.now → b'.dimensions.now ≡ b.dimensions.now → b'.cost.now ≡ b.cost.now → b'.index.now ≡ b.index.now
+    → Puts t b (record { entries = t.entries + 1; rows = t.rows; cones = t.cones; columns = t.columns; owner = t.owner }) b' (entry r (cell c v))
 unfolding emit
-one_entry {t} pr pc pv =
+one_entry {t} same pr pc pv ph pk pd pq px =
     record {
-      adds = record {
-        says = λ h k d q i. record {
+      lays = record {
+        same = same;
+        index = px;
+        says = λ i. record {
           rows = pr i;
           columns = pc i;
           values = pv i;
-          right = h;
-          kinds = k;
-          dimensions = d;
-          cost = q;
+          right = ph i;
+          kinds = pk i;
+          dimensions = pd i;
+          cost = pq i;
           tally = tally_of (t.entries + 1) (sym (add-zero t.rows.at) i) (sym (add-zero t.cones) i) (sym (add-zero t.columns.at) i) t.owner;
         };
       };
@@ -125,21 +150,24 @@ one_entry {t} pr pc pv =
       columns = refl;
     }
 
-pub one_right : {H : List Float} {t : Tally} {H' : List Float} {v : Float}
-    → H' ≡ set H t.rows.at v
-    → PutsRight t H (record { entries = t.entries; rows = record { at = t.rows.at + 1 }; cones = t.cones; columns = t.columns; owner = t.owner }) H' v
+pub one_right : {b b' : Buffers} {t : Tally} {v : Float}
+    → SameBuffers b b' → b'.rows.now ≡ b.rows.now → b'.columns.now ≡ b.columns.now → b'.values.now ≡ b.values.now
+    → b'.right.now ≡ set b.right.now t.rows.at v → b'.kinds.now ≡ b.kinds.now → b'.dimensions.now ≡ b.dimensions.now → b'.cost.now ≡ b.cost.now → b'.index.now ≡ b.index.now
+    → PutsRight t b (record { entries = t.entries; rows = record { at = t.rows.at + 1 }; cones = t.cones; columns = t.columns; owner = t.owner }) b' v
 unfolding emit
-one_right {t} ph =
+one_right {t} same pr pc pv ph pk pd pq px =
     record {
-      adds = record {
-        says = λ r c w k d q i. record {
-          rows = r;
-          columns = c;
-          values = w;
+      lays = record {
+        same = same;
+        index = px;
+        says = λ i. record {
+          rows = pr i;
+          columns = pc i;
+          values = pv i;
           right = ph i;
-          kinds = k;
-          dimensions = d;
-          cost = q;
+          kinds = pk i;
+          dimensions = pd i;
+          cost = pq i;
           tally = tally_of (sym (add-zero t.entries) i) (t.rows.at + 1) (sym (add-zero t.cones) i) (sym (add-zero t.columns.at) i) t.owner;
         };
       };
@@ -149,22 +177,27 @@ one_right {t} ph =
       columns = refl;
     }
 
-pub one_cost : {Q : List Float} {t : Tally} {Q' : List Float} {v : Float}
-    → Q' ≡ set Q t.columns.at v
-    → PutsCost t Q (record { entries = t.entries; rows = t.rows; cones = t.cones; columns = record { at = t.columns.at + 1 }; owner = t.owner }) Q' v
+pub one_cost : {b b' : Buffers} {t : Tally} {v : Float}
+    → SameBuffers b b' → b'.rows.now ≡ b.rows.now → b'.columns.now ≡ b.columns.now → b'.values.now ≡ b.values.now
+    → b'.right.now ≡ b.right.now → b'.kinds.now ≡ b.kinds.now → b'.dimensions.now ≡ b.dimensions.now → b'.cost.now ≡ set b.cost.now t.columns.at v → b'.index.now ≡ b.index.now
+    → PutsCost t b (record { entries = t.entries; rows = t.rows; cones = t.cones; columns = record { at = t.columns.at + 1 }; owner = t.owner }) b' v
 unfolding emit
-one_cost {t} {v} ph =
+one_cost {t} same pr pc pv ph pk pd pq px =
     record {
-      adds = record {
-        says = λ r c w h k d i. record {
-          rows = r;
-          columns = c;
-          values = w;
-          right = h;
-          kinds = k;
-          dimensions = d;
-          cost = ph i;
-          tally = tally_of (sym (add-zero t.entries) i) (sym (add-zero t.rows.at) i) (sym (add-zero t.cones) i) (t.columns.at + 1) t.owner;
+      costs = record {
+        lays = record {
+          same = same;
+          index = px;
+          says = λ i. record {
+            rows = pr i;
+            columns = pc i;
+            values = pv i;
+            right = ph i;
+            kinds = pk i;
+            dimensions = pd i;
+            cost = pq i;
+            tally = tally_of (sym (add-zero t.entries) i) (sym (add-zero t.rows.at) i) (sym (add-zero t.cones) i) (t.columns.at + 1) t.owner;
+          };
         };
       };
       entries = refl;
@@ -173,77 +206,35 @@ one_cost {t} {v} ph =
       columns = refl;
     }
 
-pub one_cone : {K D : List ℕ} {t : Tally} {K' D' : List ℕ} {k d : ℕ} → K' ≡ set K t.cones k → D' ≡ set D t.cones d
-    → PutsCone t K D (record { entries = t.entries; rows = t.rows; cones = t.cones + 1; columns = t.columns; owner = t.owner }) K' D' k d
-one_cone pk pd = record { kinds = pk; dimensions = pd; entries = refl; rows = refl; cones = refl; columns = refl; owner = refl }
+-- ---- chunks after chunks
 
--- ---- entries after entries
+module _ {t : Tally} {b : Buffers} where
+  pub lays_none : Lays t b t b none
+  lays_none = record { same = same_refl b; index = refl; says = sym (emit_none (state_of t b)) }
 
-module _ {t : Tally} {R C : List ℕ} {W : List Float} where
-  pub adds_none : Adds t R C W t R C W []
-  adds_none = record { says = λ h k d q. sym (emit_none (state R C W h k d q t)) }
-
-  module _ {t' : Tally} {R' C' : List ℕ} {W' : List Float} {es : List Entry} (a : Adds t R C W t' R' C' W' es) where
-    pub adds_then : {t'' : Tally} {R'' C'' : List ℕ} {W'' : List Float} {fs : List Entry} → Adds t' R' C' W' t'' R'' C'' W'' fs → Adds t R C W t'' R'' C'' W'' (es ++ fs)
-    adds_then {fs} b =
+  module _ {t' : Tally} {b' : Buffers} {a : Chunk} (p : Lays t b t' b' a) where
+    pub lays_then : {t'' : Tally} {b'' : Buffers} {c : Chunk} → Lays t' b' t'' b'' c → Lays t b t'' b'' (join a c)
+    lays_then {c} q =
         record {
-          says = λ h k d q. b.says h k d q ∙ ap (emit (chunk fs [] [] [])) (a.says h k d q) ∙ emit_emit (chunk es [] [] []) (chunk fs [] [] []) (state R C W h k d q t);
+          same = same_then p.same q.same;
+          index = q.index ∙ p.index;
+          says = q.says ∙ ap (emit c) p.says ∙ emit_emit a c (state_of t b);
         }
 
-    pub adds_rows : length R' ≡ length R
-    unfolding emit
-    adds_rows = ap (λ s. length s.rows) (a.says [] [] [] []) ∙ length-sets R t.entries (map (λ e. e.row) es)
-
-    pub adds_columns : length C' ≡ length C
-    unfolding emit
-    adds_columns = ap (λ s. length s.columns) (a.says [] [] [] []) ∙ length-sets C t.entries (map (λ e. e.column) es)
-
-    pub adds_values : length W' ≡ length W
-    unfolding emit
-    adds_values = ap (λ s. length s.values) (a.says [] [] [] []) ∙ length-sets W t.entries (map (λ e. e.value) es)
-
-module _ {t : Tally} {H : List Float} where
-  pub rights_none : Rights t H t H []
-  rights_none = record { says = λ r c v k d q. sym (emit_none (state r c v H k d q t)) }
-
-  module _ {t' : Tally} {H' : List Float} {xs : List Float} (a : Rights t H t' H' xs) where
-    pub rights_then : {t'' : Tally} {H'' : List Float} {ys : List Float} → Rights t' H' t'' H'' ys → Rights t H t'' H'' (xs ++ ys)
-    rights_then {ys} b =
-        record {
-          says = λ r c v k d q. b.says r c v k d q ∙ ap (emit (chunk [] ys [] [])) (a.says r c v k d q) ∙ emit_emit (chunk [] xs [] []) (chunk [] ys [] []) (state r c v H k d q t);
-        }
-
-    pub rights_length : length H' ≡ length H
-    unfolding emit
-    rights_length = ap (λ s. length s.right) (a.says [] [] [] [] [] []) ∙ length-sets H t.rows.at xs
-
-module _ {t : Tally} {Q : List Float} where
-  pub costs_none : Costs t Q t Q []
-  costs_none = record { says = λ r c v h k d. sym (emit_none (state r c v h k d Q t)) }
-
-  module _ {t' : Tally} {Q' : List Float} {xs : List Float} (a : Costs t Q t' Q' xs) where
-    pub costs_then : {t'' : Tally} {Q'' : List Float} {ys : List Float} → Costs t' Q' t'' Q'' ys → Costs t Q t'' Q'' (xs ++ ys)
-    costs_then {ys} b =
-        record {
-          says = λ r c v h k d. b.says r c v h k d ∙ ap (emit (chunk [] [] [] ys)) (a.says r c v h k d) ∙ emit_emit (chunk [] [] [] xs) (chunk [] [] [] ys) (state r c v h k d Q t);
-        }
-
-    pub costs_length : length Q' ≡ length Q
-    unfolding emit
-    costs_length = ap (λ s. length s.cost) (a.says [] [] [] [] [] []) ∙ length-sets Q t.columns.at xs
+    pub lays_as : {c : Chunk} → a ≡ c → Lays t b t' b' c
+    lays_as e = subst (λ (c : Chunk). Lays t b t' b' c) e p
 
 -- ---- a loop that adds one a turn. Its invariant before turn i is `(i ≤ m) × Fills .. i`
 
-module _ {t : Tally} {R C : List ℕ} {W : List Float} {n : ℕ} {f : ℕ → Cell} where
-  pub fills_none : Fills t R C W t R C W n f 0
-  fills_none = record { adds = adds_none; entries = sym (add-zero t.entries); rows = refl; cones = refl; columns = refl }
+module _ {t : Tally} {b : Buffers} {n : ℕ} {f : ℕ → Cell} where
+  pub fills_none : Fills t b t b n f 0
+  fills_none = record { lays = lays_none; entries = sym (add-zero t.entries); rows = refl; cones = refl; columns = refl }
 
-  module _ {t' : Tally} {R' C' : List ℕ} {W' : List Float} {i : ℕ} (p : Fills t R C W t' R' C' W' n f i) where
-    pub fills_more : {t'' : Tally} {R'' C'' : List ℕ} {W'' : List Float} {v : Float}
-        → Puts t' R' C' W' t'' R'' C'' W'' (entry (n + i) (cell (f i).column v)) → v ≡ (f i).value → Fills t R C W t'' R'' C'' W'' n f (i + 1)
+  module _ {t' : Tally} {b' : Buffers} {i : ℕ} (p : Fills t b t' b' n f i) where
+    pub fills_more : {t'' : Tally} {b'' : Buffers} {x : Cell} → Puts t' b' t'' b'' (entry (n + i) x) → x ≡ f i → Fills t b t'' b'' n f (i + 1)
     fills_more a e =
         record {
-          adds = rw (add-one, list_snoc, zero-add, ← e) (adds_then p.adds a.adds);
+          lays = rw (add-one, list_snoc, zero-add, ← e) (lays_then p.lays a.lays);
           entries = omega arith;
           rows = a.rows ∙ p.rows;
           cones = a.cones ∙ p.cones;
@@ -251,65 +242,57 @@ module _ {t : Tally} {R C : List ℕ} {W : List Float} {n : ℕ} {f : ℕ → Ce
         }
 
     -- the same cells, otherwise written
-    pub fills_as : {g : ℕ → Cell} → ((j : ℕ) → f j ≡ g j) → Fills t R C W t' R' C' W' n g i
-    fills_as e = subst (λ (g : ℕ → Cell). Fills t R C W t' R' C' W' n g i) (λ x j. e j x) p
+    pub fills_as : {g : ℕ → Cell} → ((j : ℕ) → f j ≡ g j) → Fills t b t' b' n g i
+    fills_as e = subst (λ (g : ℕ → Cell). Fills t b t' b' n g i) (λ x j. e j x) p
 
-    pub fills_all : {m : ℕ} → i ≤ m → m ≤ i → Fills t R C W t' R' C' W' n f m
+    pub fills_all : {m : ℕ} → i ≤ m → m ≤ i → Fills t b t' b' n f m
     fills_all {m} h g = let e : m ≡ i = omega arith in rw e p
 
-    pub fills_rows : length R' ≡ length R
-    fills_rows = adds_rows p.adds
+module _ {t : Tally} {b : Buffers} {f : ℕ → Float} where
+  pub right_none : FillsRight t b t b f 0
+  right_none = record { lays = lays_none; entries = refl; rows = sym (add-zero t.rows.at); cones = refl; columns = refl }
 
-    pub fills_columns_lem : length C' ≡ length C
-    fills_columns_lem = adds_columns p.adds
-
-    pub fills_values : length W' ≡ length W
-    fills_values = adds_values p.adds
-
-module _ {t : Tally} {H : List Float} {f : ℕ → Float} where
-  pub right_none : FillsRight t H t H f 0
-  right_none = record { adds = rights_none; entries = refl; rows = sym (add-zero t.rows.at); cones = refl; columns = refl }
-
-  module _ {t' : Tally} {H' : List Float} {i : ℕ} (p : FillsRight t H t' H' f i) where
-    pub right_more : {t'' : Tally} {H'' : List Float} {v : Float} → PutsRight t' H' t'' H'' v → v ≡ f i → FillsRight t H t'' H'' f (i + 1)
+  module _ {t' : Tally} {b' : Buffers} {i : ℕ} (p : FillsRight t b t' b' f i) where
+    pub right_more : {t'' : Tally} {b'' : Buffers} {v : Float} → PutsRight t' b' t'' b'' v → v ≡ f i → FillsRight t b t'' b'' f (i + 1)
     right_more a e =
         record {
-          adds = rw (add-one, list_snoc, zero-add, ← e) (rights_then p.adds a.adds);
+          lays = rw (add-one, list_snoc, zero-add, ← e) (lays_then p.lays a.lays);
           entries = a.entries ∙ p.entries;
           rows = omega arith;
           cones = a.cones ∙ p.cones;
           columns = a.columns ∙ p.columns;
         }
 
-    pub right_all : {m : ℕ} → i ≤ m → m ≤ i → FillsRight t H t' H' f m
+    pub right_all : {m : ℕ} → i ≤ m → m ≤ i → FillsRight t b t' b' f m
     right_all {m} h g = let e : m ≡ i = omega arith in rw e p
 
-    pub right_length : length H' ≡ length H
-    right_length = rights_length p.adds
+module _ {t : Tally} {b : Buffers} where
+  pub costs_none : Costs t b t b []
+  costs_none = record { lays = lays_none }
 
-module _ {t : Tally} {Q : List Float} {f : ℕ → Float} {k : ℕ} where
-  pub cost_none : FillsCost t Q t Q f k 0
-  cost_none = record { adds = costs_none; entries = refl; rows = refl; cones = refl; columns = sym (add-zero t.columns.at) }
+  pub costs_then : {t' : Tally} {b' : Buffers} {xs : List Float} {t'' : Tally} {b'' : Buffers} {ys : List Float} → Costs t b t' b' xs → Costs t' b' t'' b'' ys → Costs t b t'' b'' (xs ++ ys)
+  costs_then p q = record { lays = lays_then p.lays q.lays }
 
-  module _ {t' : Tally} {Q' : List Float} {i : ℕ} (p : FillsCost t Q t' Q' f k i) where
-    pub cost_more : {t'' : Tally} {Q'' : List Float} {v : Float} → PutsCost t' Q' t'' Q'' v → v ≡ f (k + i) → FillsCost t Q t'' Q'' f k (i + 1)
+module _ {t : Tally} {b : Buffers} {f : ℕ → Float} {k : ℕ} where
+  pub cost_none : FillsCost t b t b f k 0
+  cost_none = record { costs = costs_none; entries = refl; rows = refl; cones = refl; columns = sym (add-zero t.columns.at) }
+
+  module _ {t' : Tally} {b' : Buffers} {i : ℕ} (p : FillsCost t b t' b' f k i) where
+    pub cost_more : {t'' : Tally} {b'' : Buffers} {v : Float} → PutsCost t' b' t'' b'' v → v ≡ f (k + i) → FillsCost t b t'' b'' f k (i + 1)
     cost_more a e =
         record {
-          adds = rw (add-one, list_snoc, ← e) (costs_then p.adds a.adds);
+          costs = rw (add-one, list_snoc, ← e) (costs_then p.costs a.costs);
           entries = a.entries ∙ p.entries;
           rows = a.rows ∙ p.rows;
           cones = a.cones ∙ p.cones;
           columns = omega arith;
         }
 
-    pub cost_as : {g : ℕ → Float} → ((j : ℕ) → f j ≡ g j) → FillsCost t Q t' Q' g k i
-    cost_as e = subst (λ (g : ℕ → Float). FillsCost t Q t' Q' g k i) (λ x j. e j x) p
+    pub cost_as : {g : ℕ → Float} → ((j : ℕ) → f j ≡ g j) → FillsCost t b t' b' g k i
+    cost_as e = subst (λ (g : ℕ → Float). FillsCost t b t' b' g k i) (λ x j. e j x) p
 
-    pub cost_all : {m : ℕ} → i ≤ m → m ≤ i → FillsCost t Q t' Q' f k m
+    pub cost_all : {m : ℕ} → i ≤ m → m ≤ i → FillsCost t b t' b' f k m
     cost_all {m} h g = let e : m ≡ i = omega arith in rw e p
-
-    pub cost_length : length Q' ≡ length Q
-    cost_length = costs_length p.adds
 
 pub list_same : {A : Type 0} (x : A) (k c : ℕ) → list (λ i. x) k c ≡ replicate c x
 list_same x k zero = refl
@@ -317,268 +300,207 @@ list_same x k (suc c) = ap (λ (l : List _). x ∷ l) (list_same x (suc k) c)
 
 -- ---- a band, column by column
 
-module _ {t : Tally} {R C : List ℕ} {W : List Float} {n m : ℕ} where
-  pub columns_none : Columns t R C W t R C W n [] m
-  columns_none = record { adds = adds_none; entries = rw (zero-mul m) (sym (add-zero t.entries)); rows = refl; cones = refl; columns = refl }
+module _ {t : Tally} {b : Buffers} {n m : ℕ} where
+  pub columns_none : Columns t b t b n [] m
+  columns_none = record { lays = lays_none; entries = rw (zero-mul m) (sym (add-zero t.entries)); rows = refl; cones = refl; columns = refl }
 
-  pub columns_cons : {t' : Tally} {R' C' : List ℕ} {W' : List Float} {f : ℕ → Cell} {t'' : Tally} {R'' C'' : List ℕ} {W'' : List Float} {fs : List (ℕ → Cell)}
-      → Fills t R C W t' R' C' W' n f m → Columns t' R' C' W' t'' R'' C'' W'' n fs m → Columns t R C W t'' R'' C'' W'' n (f ∷ fs) m
-  columns_cons {fs} a b =
+  pub columns_cons : {t' : Tally} {b' : Buffers} {f : ℕ → Cell} {t'' : Tally} {b'' : Buffers} {fs : List (ℕ → Cell)}
+      → Fills t b t' b' n f m → Columns t' b' t'' b'' n fs m → Columns t b t'' b'' n (f ∷ fs) m
+  columns_cons {fs} p q =
       record {
-        adds = adds_then a.adds b.adds;
+        lays = lays_then p.lays q.lays;
         entries = omega (arith, suc-mul (length fs) m);
-        rows = b.rows ∙ a.rows;
-        cones = b.cones ∙ a.cones;
-        columns = b.columns ∙ a.columns;
+        rows = q.rows ∙ p.rows;
+        cones = q.cones ∙ p.cones;
+        columns = q.columns ∙ p.columns;
       }
 
-  pub columns_then : {t' : Tally} {R' C' : List ℕ} {W' : List Float} {fs : List (ℕ → Cell)} {t'' : Tally} {R'' C'' : List ℕ} {W'' : List Float} {gs : List (ℕ → Cell)}
-      → Columns t R C W t' R' C' W' n fs m → Columns t' R' C' W' t'' R'' C'' W'' n gs m → Columns t R C W t'' R'' C'' W'' n (fs ++ gs) m
-  columns_then {fs} {gs} a b =
+  pub columns_then : {t' : Tally} {b' : Buffers} {fs : List (ℕ → Cell)} {t'' : Tally} {b'' : Buffers} {gs : List (ℕ → Cell)}
+      → Columns t b t' b' n fs m → Columns t' b' t'' b'' n gs m → Columns t b t'' b'' n (fs ++ gs) m
+  columns_then {fs} {gs} p q =
       record {
-        adds = rw (joined-append (λ (f : ℕ → Cell). list (λ i. entry (n + i) (f i)) 0 m) fs gs) (adds_then a.adds b.adds);
+        lays = rw (joined-append (λ (f : ℕ → Cell). list (λ i. entry (n + i) (f i)) 0 m) fs gs) (lays_then p.lays q.lays);
         entries = let e = length-append fs gs in let d = add-mul (length fs) (length gs) m in rw (e, d) (omega arith);
-        rows = b.rows ∙ a.rows;
-        cones = b.cones ∙ a.cones;
-        columns = b.columns ∙ a.columns;
+        rows = q.rows ∙ p.rows;
+        cones = q.cones ∙ p.cones;
+        columns = q.columns ∙ p.columns;
       }
 
-pub put_fills : {t : Tally} {R C : List ℕ} {W : List Float} {n : ℕ} {t' : Tally} {R' C' : List ℕ} {W' : List Float} {x : Cell} → Puts t R C W t' R' C' W' (entry n x) → Fills t R C W t' R' C' W' n (λ i. x) 1
-put_fills {n} {x} a = record { adds = rw (add-zero n) a.adds; entries = a.entries; rows = a.rows; cones = a.cones; columns = a.columns }
+pub put_fills : {t : Tally} {b : Buffers} {n : ℕ} {t' : Tally} {b' : Buffers} {x : Cell} → Puts t b t' b' (entry n x) → Fills t b t' b' n (λ i. x) 1
+put_fills {n} {x} a = record { lays = rw (add-zero n) a.lays; entries = a.entries; rows = a.rows; cones = a.cones; columns = a.columns }
 
-pub put_right_fills : {t t' : Tally} {H H' : List Float} {x : Float} → PutsRight t H t' H' x → FillsRight t H t' H' (λ i. x) 1
-put_right_fills a = record { adds = a.adds; entries = a.entries; rows = a.rows; cones = a.cones; columns = a.columns }
+-- one cell more in a row
+cells_more : (ps : List Term) (p : Term) → constant_cells (ps ++ (p ∷ [])) ≡ constant_cells ps ++ ((λ j. cell p.col.at p.v) ∷ [])
+cells_more [] p = refl
+cells_more (q ∷ ps) p = ap (λ (l : List _). (λ (j : ℕ). cell q.col.at q.v) ∷ l) (cells_more ps p)
 
-module _ {t : Tally} {R C : List ℕ} {W H : List Float} where
-  pub band_wrote : {t' : Tally} {R' C' : List ℕ} {W' : List Float} {fs : List (ℕ → Cell)} {m : ℕ} {t'' : Tally} {H' : List Float} {x : ℕ → Float}
-      → Columns t R C W t' R' C' W' t.rows.at fs m → FillsRight t' H t'' H' x m → length fs * m ≤ 5 * m → Wrote t R C W H t'' R' C' W' H' (band m x fs ∷ []) m
-  band_wrote {R'} {C'} {W'} {fs} {m} {x} a b h =
+pub columns_snoc : {t : Tally} {b : Buffers} {n : ℕ} {t' : Tally} {b' : Buffers} (ps : List Term) (i : ℕ) {p : Term} {t'' : Tally} {b'' : Buffers}
+    → Columns t b t' b' n (constant_cells (take i ps)) 1 → Puts t' b' t'' b'' (entry n (cell p.col.at p.v)) → take (i + 1) ps ≡ take i ps ++ (p ∷ [])
+    → Columns t b t'' b'' n (constant_cells (take (i + 1) ps)) 1
+columns_snoc ps i {p} a x e = rw (e, cells_more (take i ps) p) (columns_then a (columns_cons (put_fills x) columns_none))
+
+pub put_right_fills : {t t' : Tally} {b b' : Buffers} {x : Float} → PutsRight t b t' b' x → FillsRight t b t' b' (λ i. x) 1
+put_right_fills a = record { lays = a.lays; entries = a.entries; rows = a.rows; cones = a.cones; columns = a.columns }
+
+module _ {t : Tally} {b : Buffers} where
+  pub band_wrote : {t' : Tally} {b' : Buffers} {fs : List (ℕ → Cell)} {m : ℕ} {t'' : Tally} {b'' : Buffers} {x : ℕ → Float}
+      → Columns t b t' b' t.rows.at fs m → FillsRight t' b' t'' b'' x m → length fs * m ≤ 5 * m → Wrote t b t'' b'' (band m x fs ∷ []) m
+  band_wrote {fs} {m} {x} p q h =
       let es : List Entry = joined (λ f. list (λ i. entry (t.rows.at + i) (f i)) 0 m) fs in
-      let xs : List Float = list x 0 m in
       record {
-        says = λ k d q. b.adds.says R' C' W' k d q ∙ ap (emit (chunk [] xs [] [])) (a.adds.says H k d q)
-            ∙ emit_emit (chunk es [] [] []) (chunk [] xs [] []) (state R C W H k d q t)
-            ∙ ap (λ (l : List Float). emit (chunk (es ++ []) l [] []) (state R C W H k d q t)) (sym (append-nil xs));
-        moves = record { entries = omega arith; rows = omega arith; forth = omega arith; cones = b.cones ∙ a.cones; columns = b.columns ∙ a.columns };
+        lays = lays_as (lays_then p.lays q.lays) (ap (λ (l : List Float). chunk (es ++ []) l [] []) (sym (append-nil (list x 0 m))));
+        moves = record { entries = omega arith; rows = omega arith; forth = omega arith; cones = q.cones ∙ p.cones; columns = q.columns ∙ p.columns };
       }
 
   -- a row, of the puts of its cells
-  pub row_wrote : {t' : Tally} {R' C' : List ℕ} {W' : List Float} {fs : List (ℕ → Cell)} {t'' : Tally} {H' : List Float} {x : Float}
-      → Columns t R C W t' R' C' W' t.rows.at fs 1 → PutsRight t' H t'' H' x → length fs ≤ 5 → Wrote t R C W H t'' R' C' W' H' (band 1 (λ i. x) fs ∷ []) 1
-  row_wrote {fs} a b h = band_wrote a (put_right_fills b) (omega (arith, mul-one (length fs)))
+  pub row_wrote : {t' : Tally} {b' : Buffers} {fs : List (ℕ → Cell)} {t'' : Tally} {b'' : Buffers} {x : Float}
+      → Columns t b t' b' t.rows.at fs 1 → PutsRight t' b' t'' b'' x → length fs ≤ 5 → Wrote t b t'' b'' (band 1 (λ i. x) fs ∷ []) 1
+  row_wrote {fs} p q h = band_wrote p (put_right_fills q) (omega (arith, mul-one (length fs)))
 
   -- ---- bands after bands
 
-  pub wrote_none : Wrote t R C W H t R C W H [] 0
-  wrote_none = record { says = λ k d q. sym (emit_none (state R C W H k d q t)); moves = record { entries = omega arith; rows = omega arith; forth = le_refl t.rows.at; cones = refl; columns = refl } }
+  pub wrote_none : Wrote t b t b [] 0
+  wrote_none = record { lays = lays_none; moves = record { entries = omega arith; rows = omega arith; forth = le_refl t.rows.at; cones = refl; columns = refl } }
 
-  module _ {t' : Tally} {R' C' : List ℕ} {W' H' : List Float} {xs : List Band} {b : ℕ} (p : Wrote t R C W H t' R' C' W' H' xs b) where
+  module _ {t' : Tally} {b' : Buffers} {xs : List Band} {n : ℕ} (p : Wrote t b t' b' xs n) where
     pub wrote_count : t'.rows.at ≡ t.rows.at + length (right_sides xs)
     unfolding emit
-    wrote_count = ap (λ s. s.tally.rows.at) (p.says [] [] [])
+    wrote_count = ap (λ s. s.tally.rows.at) p.lays.says
 
-    pub wrote_then : {t'' : Tally} {R'' C'' : List ℕ} {W'' H'' : List Float} {ys : List Band} {c : ℕ}
-        → Wrote t' R' C' W' H' t'' R'' C'' W'' H'' ys c → Wrote t R C W H t'' R'' C'' W'' H'' (xs ++ ys) (b + c)
+    pub wrote_then : {t'' : Tally} {b'' : Buffers} {ys : List Band} {c : ℕ} → Wrote t' b' t'' b'' ys c → Wrote t b t'' b'' (xs ++ ys) (n + c)
     wrote_then {ys} g =
         record {
-          says = λ k d q. g.says k d q ∙ ap (emit (of_bands t'.rows.at ys)) (p.says k d q) ∙ emit_emit (of_bands t.rows.at xs) (of_bands t'.rows.at ys) (state R C W H k d q t)
-              ∙ ap (λ (r : ℕ). emit (join (of_bands t.rows.at xs) (of_bands r ys)) (state R C W H k d q t)) wrote_count
-              ∙ ap (λ (a : Chunk). emit a (state R C W H k d q t)) (join_bands t.rows.at xs ys);
+          lays = lays_as (lays_then p.lays g.lays) (ap (λ (r : ℕ). join (of_bands t.rows.at xs) (of_bands r ys)) wrote_count ∙ join_bands t.rows.at xs ys);
           moves = let m = p.moves in let l = g.moves in
               record { entries = omega arith; rows = omega arith; forth = omega arith; cones = l.cones ∙ m.cones; columns = l.columns ∙ m.columns };
         }
 
-    pub wrote_as : {ys : List Band} → xs ≡ ys → Wrote t R C W H t' R' C' W' H' ys b
-    wrote_as e = subst (λ (ys : List Band). Wrote t R C W H t' R' C' W' H' ys b) e p
+    pub wrote_as : {ys : List Band} → xs ≡ ys → Wrote t b t' b' ys n
+    wrote_as e = subst (λ (ys : List Band). Wrote t b t' b' ys n) e p
 
-    pub wrote_most : {c : ℕ} → b ≤ c → Wrote t R C W H t' R' C' W' H' xs c
-    wrote_most h = let m = p.moves in record { says = p.says; moves = record { entries = omega arith; rows = omega arith; forth = m.forth; cones = m.cones; columns = m.columns } }
-
-    pub wrote_rows : length R' ≡ length R
-    unfolding emit
-    wrote_rows = ap (λ s. length s.rows) (p.says [] [] []) ∙ length-sets R t.entries (map (λ e. e.row) (entries_from t.rows.at xs))
-
-    pub wrote_columns : length C' ≡ length C
-    unfolding emit
-    wrote_columns = ap (λ s. length s.columns) (p.says [] [] []) ∙ length-sets C t.entries (map (λ e. e.column) (entries_from t.rows.at xs))
-
-    pub wrote_values : length W' ≡ length W
-    unfolding emit
-    wrote_values = ap (λ s. length s.values) (p.says [] [] []) ∙ length-sets W t.entries (map (λ e. e.value) (entries_from t.rows.at xs))
-
-    pub wrote_right : length H' ≡ length H
-    unfolding emit
-    wrote_right = ap (λ s. length s.right) (p.says [] [] []) ∙ length-sets H t.rows.at (right_sides xs)
+    pub wrote_most : {c : ℕ} → n ≤ c → Wrote t b t' b' xs c
+    wrote_most h = let m = p.moves in record { lays = p.lays; moves = record { entries = omega arith; rows = omega arith; forth = m.forth; cones = m.cones; columns = m.columns } }
 
   -- where nothing is written
-  pub wrote_skip : {b : ℕ} → Wrote t R C W H t R C W H [] b
+  pub wrote_skip : {n : ℕ} → Wrote t b t b [] n
   wrote_skip = wrote_most wrote_none (omega arith)
 
   -- ---- loops over bands
 
-  module _ {f : ℕ → List Band} {k b : ℕ} where
-    pub overs_none : Overs t R C W H t R C W H f k 0 b
+  module _ {f : ℕ → List Band} {k n : ℕ} where
+    pub overs_none : Overs t b t b f k 0 n
     overs_none = record { wrote = wrote_skip }
 
-    module _ {t' : Tally} {R' C' : List ℕ} {W' H' : List Float} {i : ℕ} (p : Overs t R C W H t' R' C' W' H' f k i b) where
-      pub overs_more : {t'' : Tally} {R'' C'' : List ℕ} {W'' H'' : List Float}
-          → Wrote t' R' C' W' H' t'' R'' C'' W'' H'' (f (k + i)) b → Overs t R C W H t'' R'' C'' W'' H'' f k (i + 1) b
+    module _ {t' : Tally} {b' : Buffers} {i : ℕ} (p : Overs t b t' b' f k i n) where
+      pub overs_more : {t'' : Tally} {b'' : Buffers} → Wrote t' b' t'' b'' (f (k + i)) n → Overs t b t'' b'' f k (i + 1) n
       overs_more g = record { wrote = rw (add-one, over_snoc, mul-suc) (wrote_most (wrote_then p.wrote g) (omega arith)) }
 
-      pub overs_all : {m c : ℕ} → i ≤ m → m ≤ i → b * m ≤ c → Wrote t R C W H t' R' C' W' H' (over f k m) c
-      overs_all {m} h g x = let e : i ≡ m = omega arith in wrote_most (subst (λ (j : ℕ). Wrote t R C W H t' R' C' W' H' (over f k j) (b * j)) e p.wrote) x
+      pub overs_all : {m c : ℕ} → i ≤ m → m ≤ i → n * m ≤ c → Wrote t b t' b' (over f k m) c
+      overs_all {m} h g x = let e : i ≡ m = omega arith in wrote_most (subst (λ (j : ℕ). Wrote t b t' b' (over f k j) (n * j)) e p.wrote) x
 
-      pub overs_rows : length R' ≡ length R
-      overs_rows = wrote_rows p.wrote
-
-      pub overs_columns : length C' ≡ length C
-      overs_columns = wrote_columns p.wrote
-
-      pub overs_values : length W' ≡ length W
-      overs_values = wrote_values p.wrote
-
-      pub overs_right : length H' ≡ length H
-      overs_right = wrote_right p.wrote
-
-  module _ {f : ℕ → Band} {k b : ℕ} where
-    pub lists_none : Lists t R C W H t R C W H f k 0 b
+  module _ {f : ℕ → Band} {k n : ℕ} where
+    pub lists_none : Lists t b t b f k 0 n
     lists_none = record { wrote = wrote_skip }
 
-    module _ {t' : Tally} {R' C' : List ℕ} {W' H' : List Float} {i : ℕ} (p : Lists t R C W H t' R' C' W' H' f k i b) where
-      pub lists_more : {t'' : Tally} {R'' C'' : List ℕ} {W'' H'' : List Float}
-          → Wrote t' R' C' W' H' t'' R'' C'' W'' H'' (f (k + i) ∷ []) b → Lists t R C W H t'' R'' C'' W'' H'' f k (i + 1) b
+    module _ {t' : Tally} {b' : Buffers} {i : ℕ} (p : Lists t b t' b' f k i n) where
+      pub lists_more : {t'' : Tally} {b'' : Buffers} → Wrote t' b' t'' b'' (f (k + i) ∷ []) n → Lists t b t'' b'' f k (i + 1) n
       lists_more g = record { wrote = rw (add-one, list_snoc, mul-suc) (wrote_most (wrote_then p.wrote g) (omega arith)) }
 
-      pub lists_all : {m c : ℕ} → i ≤ m → m ≤ i → b * m ≤ c → Wrote t R C W H t' R' C' W' H' (list f k m) c
-      lists_all {m} h g x = let e : i ≡ m = omega arith in wrote_most (subst (λ (j : ℕ). Wrote t R C W H t' R' C' W' H' (list f k j) (b * j)) e p.wrote) x
-
-      pub lists_rows : length R' ≡ length R
-      lists_rows = wrote_rows p.wrote
-
-      pub lists_columns : length C' ≡ length C
-      lists_columns = wrote_columns p.wrote
-
-      pub lists_values : length W' ≡ length W
-      lists_values = wrote_values p.wrote
-
-      pub lists_right : length H' ≡ length H
-      lists_right = wrote_right p.wrote
+      pub lists_all : {m c : ℕ} → i ≤ m → m ≤ i → n * m ≤ c → Wrote t b t' b' (list f k m) c
+      lists_all {m} h g x = let e : i ≡ m = omega arith in wrote_most (subst (λ (j : ℕ). Wrote t b t' b' (list f k j) (n * j)) e p.wrote) x
 
 -- a loop from 0 on
-pub overs_next : {t : Tally} {R C : List ℕ} {W H : List Float} {f : ℕ → List Band} {b : ℕ} {t' : Tally} {R' C' : List ℕ} {W' H' : List Float} {i : ℕ} {t'' : Tally}
-    {R'' C'' : List ℕ} {W'' H'' : List Float}
-    → Overs t R C W H t' R' C' W' H' f 0 i b → Wrote t' R' C' W' H' t'' R'' C'' W'' H'' (f i) b → Overs t R C W H t'' R'' C'' W'' H'' f 0 (i + 1) b
+pub overs_next : {t : Tally} {b : Buffers} {f : ℕ → List Band} {n : ℕ} {t' : Tally} {b' : Buffers} {i : ℕ} {t'' : Tally} {b'' : Buffers}
+    → Overs t b t' b' f 0 i n → Wrote t' b' t'' b'' (f i) n → Overs t b t'' b'' f 0 (i + 1) n
 overs_next {f} {i} p g = overs_more p (wrote_as g (ap f (sym (zero-add i))))
 
 -- ---- cones
 
-module _ {t : Tally} {R C : List ℕ} {W H : List Float} {K D : List ℕ} where
-  pub closes : {t' : Tally} {R' C' : List ℕ} {W' H' : List Float} {bs : List Band} {b : ℕ} {t'' : Tally} {K' D' : List ℕ} {kind dim : ℕ}
-      → Wrote t R C W H t' R' C' W' H' bs b → PutsCone t' K D t'' K' D' kind dim → t.rows.at + dim ≡ t'.rows.at → 1 ≤ b
-      → Closed t R C W H K D t'' R' C' W' H' K' D' (cone kind bs ∷ []) b
+module _ {t : Tally} {b : Buffers} where
+  pub closes : {t' : Tally} {b' : Buffers} {bs : List Band} {n : ℕ} {t'' : Tally} {b'' : Buffers} {kind dim : ℕ}
+      → Wrote t b t' b' bs n → PutsCone t' b' t'' b'' kind dim → t.rows.at + dim ≡ t'.rows.at → 1 ≤ n → Closed t b t'' b'' (cone kind bs ∷ []) n
   unfolding emit
-  closes {t'} {R'} {C'} {W'} {H'} {bs} {b} {t''} {K'} {D'} {kind} {dim} p g e h =
+  closes {t'} {b'} {bs} {n} {t''} {b''} {kind} {dim} p g e h =
       let z : dim ≡ heights bs = omega (arith, wrote_count p, right_heights bs) in
-      let last : (q : List Float) → state R' C' W' H' K' D' q t'' ≡ emit (chunk [] [] (cone kind bs ∷ []) []) (state R' C' W' H' K D q t') =
-      λ q i. record {
-        rows = R';
-        columns = C';
-        values = W';
-        right = H';
-        kinds = g.kinds i;
-        dimensions = (g.dimensions ∙ ap (λ (x : ℕ). set D t'.cones x) z) i;
-        cost = q;
-        tally = tally_of ((g.entries ∙ sym (add-zero t'.entries)) i) ((g.rows ∙ sym (add-zero t'.rows.at)) i) (g.cones i) ((g.columns ∙ sym (add-zero t'.columns.at)) i) (g.owner i);
+      let last : Lays t' b' t'' b'' (chunk [] [] (cone kind bs ∷ []) []) =
+      record {
+        same = g.same;
+        index = g.index;
+        says = g.says ∙ λ i. record {
+          rows = b'.rows.now;
+          columns = b'.columns.now;
+          values = b'.values.now;
+          right = b'.right.now;
+          kinds = sets b'.kinds.now t'.cones (kind ∷ []);
+          dimensions = set b'.dimensions.now t'.cones (z i);
+          cost = b'.cost.now;
+          tally = tally_of (sym (add-zero t'.entries) i) (sym (add-zero t'.rows.at) i) (t'.cones + 1) (sym (add-zero t'.columns.at) i) t'.owner;
+        };
       } in
       let m = p.moves in
       record {
-        says = λ q. last q ∙ ap (emit (chunk [] [] (cone kind bs ∷ []) [])) (p.says K D q)
-            ∙ emit_emit (of_bands t.rows.at bs) (chunk [] [] (cone kind bs ∷ []) []) (state R C W H K D q t)
-            ∙ (λ i. emit (chunk ((append-nil (entries_from t.rows.at bs) ∙ ap (entries_from t.rows.at) (sym (append-nil bs))) i)
-            ((append-nil (right_sides bs) ∙ ap right_sides (sym (append-nil bs))) i) (cone kind bs ∷ []) []) (state R C W H K D q t));
+        lays = lays_as (lays_then p.lays last)
+            (λ i. chunk ((append-nil (entries_from t.rows.at bs) ∙ ap (entries_from t.rows.at) (sym (append-nil bs))) i)
+            ((append-nil (right_sides bs) ∙ ap right_sides (sym (append-nil bs))) i) (cone kind bs ∷ []) []);
         steps = record { entries = omega arith; rows = omega arith; cones = omega arith; columns = g.columns ∙ m.columns };
       }
 
-  pub closed_none : Closed t R C W H K D t R C W H K D [] 0
-  closed_none = record { says = λ q. sym (emit_none (state R C W H K D q t)); steps = record { entries = omega arith; rows = omega arith; cones = omega arith; columns = refl } }
+  pub closed_none : Closed t b t b [] 0
+  closed_none = record { lays = lays_none; steps = record { entries = omega arith; rows = omega arith; cones = omega arith; columns = refl } }
 
-  module _ {t' : Tally} {R' C' : List ℕ} {W' H' : List Float} {K' D' : List ℕ} {xs : List Cone} {b : ℕ} (p : Closed t R C W H K D t' R' C' W' H' K' D' xs b) where
+  module _ {t' : Tally} {b' : Buffers} {xs : List Cone} {n : ℕ} (p : Closed t b t' b' xs n) where
     pub closed_count : t'.rows.at ≡ t.rows.at + length (right_sides (bands_of xs))
     unfolding emit
-    closed_count = ap (λ s. s.tally.rows.at) (p.says [])
+    closed_count = ap (λ s. s.tally.rows.at) p.lays.says
 
-    pub closed_then : {t'' : Tally} {R'' C'' : List ℕ} {W'' H'' : List Float} {K'' D'' : List ℕ} {ys : List Cone} {c : ℕ}
-        → Closed t' R' C' W' H' K' D' t'' R'' C'' W'' H'' K'' D'' ys c → Closed t R C W H K D t'' R'' C'' W'' H'' K'' D'' (xs ++ ys) (b + c)
+    pub closed_then : {t'' : Tally} {b'' : Buffers} {ys : List Cone} {c : ℕ} → Closed t' b' t'' b'' ys c → Closed t b t'' b'' (xs ++ ys) (n + c)
     closed_then {ys} g =
-        let s : List Float → State = λ q. state R C W H K D q t in
         record {
-          says = λ q. g.says q ∙ ap (emit (of_cones t'.rows.at ys)) (p.says q) ∙ emit_emit (of_cones t.rows.at xs) (of_cones t'.rows.at ys) (s q)
-              ∙ ap (λ (r : ℕ). emit (join (of_cones t.rows.at xs) (of_cones r ys)) (s q)) closed_count ∙ ap (λ (a : Chunk). emit a (s q)) (join_cones t.rows.at xs ys);
+          lays = lays_as (lays_then p.lays g.lays) (ap (λ (r : ℕ). join (of_cones t.rows.at xs) (of_cones r ys)) closed_count ∙ join_cones t.rows.at xs ys);
           steps = let m = p.steps in let l = g.steps in record { entries = omega arith; rows = omega arith; cones = omega arith; columns = l.columns ∙ m.columns };
         }
 
-    pub closed_most : {c : ℕ} → b ≤ c → Closed t R C W H K D t' R' C' W' H' K' D' xs c
-    closed_most h = let m = p.steps in record { says = p.says; steps = record { entries = omega arith; rows = omega arith; cones = omega arith; columns = m.columns } }
+    pub closed_most : {c : ℕ} → n ≤ c → Closed t b t' b' xs c
+    closed_most h = let m = p.steps in record { lays = p.lays; steps = record { entries = omega arith; rows = omega arith; cones = omega arith; columns = m.columns } }
 
-    pub closed_rows : length R' ≡ length R
-    unfolding emit
-    closed_rows = ap (λ s. length s.rows) (p.says []) ∙ length-sets R t.entries (map (λ e. e.row) (entries_from t.rows.at (bands_of xs)))
-
-    pub closed_columns : length C' ≡ length C
-    unfolding emit
-    closed_columns = ap (λ s. length s.columns) (p.says []) ∙ length-sets C t.entries (map (λ e. e.column) (entries_from t.rows.at (bands_of xs)))
-
-    pub closed_values : length W' ≡ length W
-    unfolding emit
-    closed_values = ap (λ s. length s.values) (p.says []) ∙ length-sets W t.entries (map (λ e. e.value) (entries_from t.rows.at (bands_of xs)))
-
-    pub closed_right : length H' ≡ length H
-    unfolding emit
-    closed_right = ap (λ s. length s.right) (p.says []) ∙ length-sets H t.rows.at (right_sides (bands_of xs))
-
-    pub closed_kinds : length K' ≡ length K
-    unfolding emit
-    closed_kinds = ap (λ s. length s.kinds) (p.says []) ∙ length-sets K t.cones (map (λ c. c.kind) xs)
-
-    pub closed_dimensions : length D' ≡ length D
-    unfolding emit
-    closed_dimensions = ap (λ s. length s.dimensions) (p.says []) ∙ length-sets D t.cones (map dimension xs)
-
-  pub closed_skip : {b : ℕ} → Closed t R C W H K D t R C W H K D [] b
+  pub closed_skip : {n : ℕ} → Closed t b t b [] n
   closed_skip = closed_most closed_none (omega arith)
 
-  module _ {f : ℕ → Cone} {j b : ℕ} where
-    pub turns_none : ClosedList t R C W H K D t R C W H K D f j 0 b
+  module _ {f : ℕ → Cone} {j n : ℕ} where
+    pub turns_none : ClosedList t b t b f j 0 n
     turns_none = record { closed = closed_skip }
 
-    module _ {t' : Tally} {R' C' : List ℕ} {W' H' : List Float} {K' D' : List ℕ} {i : ℕ} (p : ClosedList t R C W H K D t' R' C' W' H' K' D' f j i b) where
-      pub turns_more : {t'' : Tally} {R'' C'' : List ℕ} {W'' H'' : List Float} {K'' D'' : List ℕ}
-          → Closed t' R' C' W' H' K' D' t'' R'' C'' W'' H'' K'' D'' (f (j + i) ∷ []) b → ClosedList t R C W H K D t'' R'' C'' W'' H'' K'' D'' f j (i + 1) b
+    module _ {t' : Tally} {b' : Buffers} {i : ℕ} (p : ClosedList t b t' b' f j i n) where
+      pub turns_more : {t'' : Tally} {b'' : Buffers} → Closed t' b' t'' b'' (f (j + i) ∷ []) n → ClosedList t b t'' b'' f j (i + 1) n
       turns_more g = record { closed = rw (add-one, list_snoc, mul-suc) (closed_most (closed_then p.closed g) (omega arith)) }
 
-      pub turns_all : {m c : ℕ} → i ≤ m → m ≤ i → b * m ≤ c → Closed t R C W H K D t' R' C' W' H' K' D' (list f j m) c
-      turns_all {m} h g x = let e : i ≡ m = omega arith in closed_most (subst (λ (n : ℕ). Closed t R C W H K D t' R' C' W' H' K' D' (list f j n) (b * n)) e p.closed) x
+      pub turns_all : {m c : ℕ} → i ≤ m → m ≤ i → n * m ≤ c → Closed t b t' b' (list f j m) c
+      turns_all {m} h g x = let e : i ≡ m = omega arith in closed_most (subst (λ (u : ℕ). Closed t b t' b' (list f j u) (n * u)) e p.closed) x
 
   -- a block: its cones, then the cost of its columns
-  pub builds : {t' : Tally} {R' C' : List ℕ} {W' H' : List Float} {K' D' : List ℕ} {cs : List Cone} {b : ℕ} {t'' : Tally} {Q Q' : List Float} {xs : List Float} {ys : List Cell} {m c : ℕ}
-      → Closed t R C W H K D t' R' C' W' H' K' D' cs b → Costs t' Q t'' Q' xs → t''.columns.at ≡ t'.columns.at + m → b ≤ c → m ≤ c
-      → Built (state R C W H K D Q t) (state R' C' W' H' K' D' Q' t'') (record { cones = cs; cost = xs; charges = ys }) c
+  pub builds : {t' : Tally} {b' : Buffers} {cs : List Cone} {n : ℕ} {t'' : Tally} {b'' : Buffers} {xs : List Float} {ys : List Cell} {m c : ℕ}
+      → Closed t b t' b' cs n → Costs t' b' t'' b'' xs → t''.columns.at ≡ t'.columns.at + m → n ≤ c → m ≤ c
+      → Builds t b t'' b'' (record { cones = cs; cost = xs; charges = ys }) c
   unfolding emit
-  builds {t'} {R'} {C'} {W'} {H'} {K'} {D'} {cs} {t''} {Q} {xs} p g e h l =
+  builds {t'} {b'} {cs} {t''} {xs} p g e h l =
       let n = p.steps in
-      let u : State = state R C W H K D Q t in
-      let a : t''.entries ≡ t'.entries = ap (λ s. s.tally.entries) (g.says R' C' W' H' K' D') ∙ add-zero t'.entries in
-      let z : t''.rows.at ≡ t'.rows.at = ap (λ s. s.tally.rows.at) (g.says R' C' W' H' K' D') ∙ add-zero t'.rows.at in
-      let y : t''.cones ≡ t'.cones = ap (λ s. s.tally.cones) (g.says R' C' W' H' K' D') ∙ add-zero t'.cones in
+      let a : t''.entries ≡ t'.entries = ap (λ s. s.tally.entries) g.lays.says ∙ add-zero t'.entries in
+      let z : t''.rows.at ≡ t'.rows.at = ap (λ s. s.tally.rows.at) g.lays.says ∙ add-zero t'.rows.at in
+      let y : t''.cones ≡ t'.cones = ap (λ s. s.tally.cones) g.lays.says ∙ add-zero t'.cones in
+      let all = lays_then p.lays g.lays in
       record {
-        says = g.says R' C' W' H' K' D' ∙ ap (emit (chunk [] [] [] xs)) (p.says Q) ∙ emit_emit (of_cones t.rows.at cs) (chunk [] [] [] xs) u
-            ∙ (λ i. emit (chunk (append-nil (entries_from t.rows.at (bands_of cs)) i) (append-nil (right_sides (bands_of cs)) i) (append-nil cs i) xs) u);
-        entries = omega arith;
-        rows = omega arith;
-        cones = omega arith;
-        columns = omega arith;
+        same = all.same;
+        index = all.index;
+        built = record {
+          says = all.says
+              ∙ (λ i. emit (chunk (append-nil (entries_from t.rows.at (bands_of cs)) i) (append-nil (right_sides (bands_of cs)) i) (append-nil cs i) xs) (state_of t b));
+          entries = omega arith;
+          rows = omega arith;
+          cones = omega arith;
+          columns = omega arith;
+        };
       }
 
-pub ruleset stage = (fills_none, fills_more, fills_all, fills_rows, fills_columns_lem, fills_values, right_none, right_more, right_all, right_length, cost_none, cost_more, cost_all, cost_length, rules)
+pub ruleset stage = (fills_none, fills_more, fills_all, right_none, right_more, right_all, cost_none, cost_more, cost_all, rules)
 
-pub ruleset turns = (overs_none, overs_rows, overs_columns, overs_values, overs_right, lists_none, lists_rows, lists_columns, lists_values, lists_right, rules)
+pub ruleset turns = (overs_none, lists_none, rules)

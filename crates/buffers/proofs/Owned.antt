@@ -1,14 +1,10 @@
 -- What the stores of an owner's eight numbers come to. Assumes nothing.
-use mathlib.Core.Path.{◌≡◌, refl, sym, ap, ◌∙◌}
+use mathlib.Core.Path.{◌≡◌, ◌∙◌}
 use mathlib.Core.List.{List, [], ◌∷◌}
-use Prim.Native.Nat.{ℕ, suc, ◌+◌, ◌-◌, ◌*◌}
+use Prim.Native.Nat.{ℕ, suc, ◌+◌}
 use native.Mathlib.Omega.{arith}
-use lib.ListN.{length, set}
-use lib.Seq.{sets, length-sets}
-use Rattle.model.specs.Owners.{eight}
-use Rattle.model.specs.declared.Tally.{Tally}
-use Rattle.buffers.specs.Owned.{owner_between, reowned, PutsOwner}
-use Rattle.buffers.proofs.Laws.{sets-append}
+use lib.ListN.{set}
+use lib.Seq.{sets}
 
 pub four_sets : (x : List ℕ) (at a b c d : ℕ) {x₁ x₂ x₃ x₄ : List ℕ} → x₁ ≡ set x at a → x₂ ≡ set x₁ (at + 1) b → x₃ ≡ set x₂ (at + 2) c → x₄ ≡ set x₃ (at + 3) d
     → x₄ ≡ sets x at (a ∷ b ∷ c ∷ d ∷ [])
@@ -17,18 +13,3 @@ four_sets x at a b c d p q r s =
     let f : at + 2 ≡ suc (suc at) = omega arith in
     let g : at + 3 ≡ suc (suc (suc at)) = omega arith in
     s ∙ rw (r, q, p, e, f, g)
-
--- the firsts, and the lengths
-abbrev firsts : Tally → List ℕ
-firsts t = t.entries ∷ t.rows.at ∷ t.cones ∷ t.columns.at ∷ []
-
-abbrev sizes : Tally → Tally → List ℕ
-sizes t u = (u.entries - t.entries) ∷ (u.rows.at - t.rows.at) ∷ (u.cones - t.cones) ∷ (u.columns.at - t.columns.at) ∷ []
-
-pub owner_put : (t u : Tally) (x : List ℕ) {x₁ x₂ : List ℕ} → x₁ ≡ sets x (8 * t.owner) (firsts t) → x₂ ≡ sets x₁ (8 * t.owner + 4) (sizes t u)
-    → PutsOwner t u x (reowned (t.owner + 1) u) x₂
-owner_put t u x p q =
-    record { says = q ∙ ap (λ (l : List ℕ). sets l (8 * t.owner + 4) (sizes t u)) p ∙ sym (sets-append x (8 * t.owner) (firsts t) (sizes t u)); next = refl }
-
-pub owner_long : {t u t' : Tally} {x x' : List ℕ} → PutsOwner t u x t' x' → length x' ≡ length x
-owner_long {t} {u} {x} p = ap length p.says ∙ length-sets x (8 * t.owner) (eight (owner_between t u))

@@ -3,6 +3,8 @@ use Rattle.std.specs.Prelude.{◌≡◌, List, [], ◌∷◌, ◌++◌, map, ℕ
 use Rattle.std.proofs.lemmas.List.Edits.{sets}
 use Rattle.model.specs.Lists.{list, over, joined}
 use Rattle.model.specs.Program.{Cell, Band, Cone, Block, Entry, entry, dimension, entries_from, right_sides}
+use Rattle.model.specs.Lent.{SameBuffers}
+use Rattle.model.specs.declared.Buffers.{Buffers}
 use Rattle.model.specs.declared.Tally.{Tally}
 
 -- what is laid over the buffers: entries, right sides, cones with their dimensions, the cost of new columns
@@ -53,6 +55,10 @@ pub record State : Type 0 where
 abbrev pub state : List ℕ → List ℕ → List Float → List Float → List ℕ → List ℕ → List Float → Tally → State
 state r c v h k d q t = record { rows = r; columns = c; values = v; right = h; kinds = k; dimensions = d; cost = q; tally = t }
 
+-- of the buffers that were lent
+abbrev pub state_of : Tally → Buffers → State
+state_of t b = state b.rows.now b.columns.now b.values.now b.right.now b.kinds.now b.dimensions.now b.cost.now t
+
 abbrev pub moved : Chunk → Tally → Tally
 moved a t =
     tally_of (t.entries + length a.entries) (t.rows.at + length a.right) (t.cones + length a.cones) (t.columns.at + length a.cost) t.owner
@@ -71,50 +77,49 @@ emit a s =
       tally = moved a s.tally;
     }
 
--- What a writer says of the buffers that it was lent, before and after, and of the tally; whatever stands in the others. Each is a record, so that a
--- proof's laws find their arguments. How the tally moves follows from `says`, and is said for `omega` to find.
+-- What a writer says of the tally and the buffers, before and after. Each is a record, so that a proof's laws find their arguments.
+-- How the tally moves follows from `says`, and is said for `omega` to find.
 
--- some entries
-pub record Adds (t : Tally) (r c : List ℕ) (v : List Float) (t' : Tally) (r' c' : List ℕ) (v' : List Float) (es : List Entry) : Type 0 where
-  pub says : (h : List Float) (k d : List ℕ) (q : List Float) → state r' c' v' h k d q t' ≡ emit (chunk es [] [] []) (state r c v h k d q t)
+-- a chunk is laid over the buffers; the index, which no stage writes, stays as it is
+pub record Lays (t : Tally) (b : Buffers) (t' : Tally) (b' : Buffers) (a : Chunk) : Type 0 where
+  pub same : SameBuffers b b'
+  pub index : b'.index.now ≡ b.index.now
+  pub says : state_of t' b' ≡ emit a (state_of t b)
 
 -- entries one below the other, from row n on: a column of a band
-pub record Fills (t : Tally) (r c : List ℕ) (v : List Float) (t' : Tally) (r' c' : List ℕ) (v' : List Float) (n : ℕ) (f : ℕ → Cell) (m : ℕ) : Type 0 where
-  pub adds : Adds t r c v t' r' c' v' (list (λ i. entry (n + i) (f i)) 0 m)
+pub record Fills (t : Tally) (b : Buffers) (t' : Tally) (b' : Buffers) (n : ℕ) (f : ℕ → Cell) (m : ℕ) : Type 0 where
+  pub lays : Lays t b t' b' (chunk (list (λ i. entry (n + i) (f i)) 0 m) [] [] [])
   pub entries : t'.entries ≡ t.entries + m
   pub rows : t'.rows.at ≡ t.rows.at
   pub cones : t'.cones ≡ t.cones
   pub columns : t'.columns.at ≡ t.columns.at
 
 -- several columns of a band
-pub record Columns (t : Tally) (r c : List ℕ) (v : List Float) (t' : Tally) (r' c' : List ℕ) (v' : List Float) (n : ℕ) (fs : List (ℕ → Cell)) (m : ℕ) : Type 0 where
-  pub adds : Adds t r c v t' r' c' v' (joined (λ f. list (λ i. entry (n + i) (f i)) 0 m) fs)
+pub record Columns (t : Tally) (b : Buffers) (t' : Tally) (b' : Buffers) (n : ℕ) (fs : List (ℕ → Cell)) (m : ℕ) : Type 0 where
+  pub lays : Lays t b t' b' (chunk (joined (λ f. list (λ i. entry (n + i) (f i)) 0 m) fs) [] [] [])
   pub entries : t'.entries ≡ t.entries + length fs * m
   pub rows : t'.rows.at ≡ t.rows.at
   pub cones : t'.cones ≡ t.cones
   pub columns : t'.columns.at ≡ t.columns.at
 
 -- one entry
-pub record Puts (t : Tally) (r c : List ℕ) (v : List Float) (t' : Tally) (r' c' : List ℕ) (v' : List Float) (e : Entry) : Type 0 where
-  pub adds : Adds t r c v t' r' c' v' (e ∷ [])
+pub record Puts (t : Tally) (b : Buffers) (t' : Tally) (b' : Buffers) (e : Entry) : Type 0 where
+  pub lays : Lays t b t' b' (chunk (e ∷ []) [] [] [])
   pub entries : t'.entries ≡ t.entries + 1
   pub rows : t'.rows.at ≡ t.rows.at
   pub cones : t'.cones ≡ t.cones
   pub columns : t'.columns.at ≡ t.columns.at
 
 -- right sides
-pub record Rights (t : Tally) (h : List Float) (t' : Tally) (h' : List Float) (xs : List Float) : Type 0 where
-  pub says : (r c : List ℕ) (v : List Float) (k d : List ℕ) (q : List Float) → state r c v h' k d q t' ≡ emit (chunk [] xs [] []) (state r c v h k d q t)
-
-pub record FillsRight (t : Tally) (h : List Float) (t' : Tally) (h' : List Float) (f : ℕ → Float) (m : ℕ) : Type 0 where
-  pub adds : Rights t h t' h' (list f 0 m)
+pub record FillsRight (t : Tally) (b : Buffers) (t' : Tally) (b' : Buffers) (f : ℕ → Float) (m : ℕ) : Type 0 where
+  pub lays : Lays t b t' b' (chunk [] (list f 0 m) [] [])
   pub entries : t'.entries ≡ t.entries
   pub rows : t'.rows.at ≡ t.rows.at + m
   pub cones : t'.cones ≡ t.cones
   pub columns : t'.columns.at ≡ t.columns.at
 
-pub record PutsRight (t : Tally) (h : List Float) (t' : Tally) (h' : List Float) (x : Float) : Type 0 where
-  pub adds : Rights t h t' h' (x ∷ [])
+pub record PutsRight (t : Tally) (b : Buffers) (t' : Tally) (b' : Buffers) (x : Float) : Type 0 where
+  pub lays : Lays t b t' b' (chunk [] (x ∷ []) [] [])
   pub entries : t'.entries ≡ t.entries
   pub rows : t'.rows.at ≡ t.rows.at + 1
   pub cones : t'.cones ≡ t.cones
@@ -129,21 +134,24 @@ pub record Moves (t t' : Tally) (b : ℕ) : Type 0 where
   pub columns : t'.columns.at ≡ t.columns.at
 
 -- bands, one below the other, from the tally's row on
-pub record Wrote (t : Tally) (r c : List ℕ) (v h : List Float) (t' : Tally) (r' c' : List ℕ) (v' h' : List Float) (bs : List Band) (b : ℕ) : Type 0 where
-  pub says : (k d : List ℕ) (q : List Float) → state r' c' v' h' k d q t' ≡ emit (of_bands t.rows.at bs) (state r c v h k d q t)
-  pub moves : Moves t t' b
+pub record Wrote (t : Tally) (b : Buffers) (t' : Tally) (b' : Buffers) (bs : List Band) (most : ℕ) : Type 0 where
+  pub lays : Lays t b t' b' (of_bands t.rows.at bs)
+  pub moves : Moves t t' most
 
--- so many turns of a loop, each at most b rows: f k, f (k + 1), ..
-pub record Overs (t : Tally) (r c : List ℕ) (v h : List Float) (t' : Tally) (r' c' : List ℕ) (v' h' : List Float) (f : ℕ → List Band) (k i b : ℕ) : Type 0 where
-  pub wrote : Wrote t r c v h t' r' c' v' h' (over f k i) (b * i)
+-- so many turns of a loop, each at most so many rows: f k, f (k + 1), ..
+pub record Overs (t : Tally) (b : Buffers) (t' : Tally) (b' : Buffers) (f : ℕ → List Band) (k i most : ℕ) : Type 0 where
+  pub wrote : Wrote t b t' b' (over f k i) (most * i)
 
-pub record Lists (t : Tally) (r c : List ℕ) (v h : List Float) (t' : Tally) (r' c' : List ℕ) (v' h' : List Float) (f : ℕ → Band) (k i b : ℕ) : Type 0 where
-  pub wrote : Wrote t r c v h t' r' c' v' h' (list f k i) (b * i)
+pub record Lists (t : Tally) (b : Buffers) (t' : Tally) (b' : Buffers) (f : ℕ → Band) (k i most : ℕ) : Type 0 where
+  pub wrote : Wrote t b t' b' (list f k i) (most * i)
 
 -- a cone's kind and dimension
-pub record PutsCone (t : Tally) (k d : List ℕ) (t' : Tally) (k' d' : List ℕ) (kind dim : ℕ) : Type 0 where
-  pub kinds : k' ≡ sets k t.cones (kind ∷ [])
-  pub dimensions : d' ≡ sets d t.cones (dim ∷ [])
+pub record PutsCone (t : Tally) (b : Buffers) (t' : Tally) (b' : Buffers) (kind dim : ℕ) : Type 0 where
+  pub same : SameBuffers b b'
+  pub index : b'.index.now ≡ b.index.now
+  pub says : state_of t' b'
+      ≡ state b.rows.now b.columns.now b.values.now b.right.now (sets b.kinds.now t.cones (kind ∷ [])) (sets b.dimensions.now t.cones (dim ∷ [])) b.cost.now
+      (tally_of t.entries t.rows.at (t.cones + 1) t.columns.at t.owner)
   pub entries : t'.entries ≡ t.entries
   pub rows : t'.rows.at ≡ t.rows.at
   pub cones : t'.cones ≡ t.cones + 1
@@ -158,35 +166,41 @@ pub record Steps (t t' : Tally) (b : ℕ) : Type 0 where
   pub columns : t'.columns.at ≡ t.columns.at
 
 -- cones with their bands
-pub record Closed (t : Tally) (r c : List ℕ) (v h : List Float) (k d : List ℕ) (t' : Tally) (r' c' : List ℕ) (v' h' : List Float) (k' d' : List ℕ) (cs : List Cone) (b : ℕ) : Type 0 where
-  pub says : (q : List Float) → state r' c' v' h' k' d' q t' ≡ emit (of_cones t.rows.at cs) (state r c v h k d q t)
-  pub steps : Steps t t' b
+pub record Closed (t : Tally) (b : Buffers) (t' : Tally) (b' : Buffers) (cs : List Cone) (most : ℕ) : Type 0 where
+  pub lays : Lays t b t' b' (of_cones t.rows.at cs)
+  pub steps : Steps t t' most
 
-pub record ClosedList (t : Tally) (r c : List ℕ) (v h : List Float) (k d : List ℕ) (t' : Tally) (r' c' : List ℕ) (v' h' : List Float) (k' d' : List ℕ) (f : ℕ → Cone) (j i b : ℕ) : Type 0 where
-  pub closed : Closed t r c v h k d t' r' c' v' h' k' d' (list f j i) (b * i)
+pub record ClosedList (t : Tally) (b : Buffers) (t' : Tally) (b' : Buffers) (f : ℕ → Cone) (j i most : ℕ) : Type 0 where
+  pub closed : Closed t b t' b' (list f j i) (most * i)
 
 -- the cost of new columns
-pub record Costs (t : Tally) (q : List Float) (t' : Tally) (q' : List Float) (xs : List Float) : Type 0 where
-  pub says : (r c : List ℕ) (v h : List Float) (k d : List ℕ) → state r c v h k d q' t' ≡ emit (chunk [] [] [] xs) (state r c v h k d q t)
+pub record Costs (t : Tally) (b : Buffers) (t' : Tally) (b' : Buffers) (xs : List Float) : Type 0 where
+  pub lays : Lays t b t' b' (chunk [] [] [] xs)
 
-pub record PutsCost (t : Tally) (q : List Float) (t' : Tally) (q' : List Float) (x : Float) : Type 0 where
-  pub adds : Costs t q t' q' (x ∷ [])
+pub record PutsCost (t : Tally) (b : Buffers) (t' : Tally) (b' : Buffers) (x : Float) : Type 0 where
+  pub costs : Costs t b t' b' (x ∷ [])
   pub entries : t'.entries ≡ t.entries
   pub rows : t'.rows.at ≡ t.rows.at
   pub cones : t'.cones ≡ t.cones
   pub columns : t'.columns.at ≡ t.columns.at + 1
 
-pub record FillsCost (t : Tally) (q : List Float) (t' : Tally) (q' : List Float) (f : ℕ → Float) (k m : ℕ) : Type 0 where
-  pub adds : Costs t q t' q' (list f k m)
+pub record FillsCost (t : Tally) (b : Buffers) (t' : Tally) (b' : Buffers) (f : ℕ → Float) (k m : ℕ) : Type 0 where
+  pub costs : Costs t b t' b' (list f k m)
   pub entries : t'.entries ≡ t.entries
   pub rows : t'.rows.at ≡ t.rows.at
   pub cones : t'.cones ≡ t.cones
   pub columns : t'.columns.at ≡ t.columns.at + m
 
--- a block, but for its charges, which the cost of earlier columns holds from the start; moves all counts by at most b, the entries by five times that
-pub record Built (s s' : State) (x : Block) (b : ℕ) : Type 0 where
+-- a block, but for its charges, which the cost of earlier columns holds from the start; moves all counts by at most so much, the entries by five times that
+pub record Built (s s' : State) (x : Block) (most : ℕ) : Type 0 where
   pub says : s' ≡ emit (of_block s.tally.rows.at x) s
-  pub entries : s'.tally.entries ≤ s.tally.entries + 5 * b
-  pub rows : s'.tally.rows.at ≤ s.tally.rows.at + b
-  pub cones : s'.tally.cones ≤ s.tally.cones + b
-  pub columns : s'.tally.columns.at ≤ s.tally.columns.at + b
+  pub entries : s'.tally.entries ≤ s.tally.entries + 5 * most
+  pub rows : s'.tally.rows.at ≤ s.tally.rows.at + most
+  pub cones : s'.tally.cones ≤ s.tally.cones + most
+  pub columns : s'.tally.columns.at ≤ s.tally.columns.at + most
+
+-- the same of the buffers that were lent
+pub record Builds (t : Tally) (b : Buffers) (t' : Tally) (b' : Buffers) (x : Block) (most : ℕ) : Type 0 where
+  pub same : SameBuffers b b'
+  pub index : b'.index.now ≡ b.index.now
+  pub built : Built (state_of t b) (state_of t' b') x most

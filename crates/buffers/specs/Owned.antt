@@ -1,11 +1,13 @@
 -- Request 6: "The tally record gains the owner being written." What is stored of an owner in the index.
-use Rattle.std.specs.Prelude.{◌≡◌, List, ℕ, ◌+◌, ◌-◌, ◌*◌}
+use Rattle.std.specs.Prelude.{◌≡◌, ℕ, ◌+◌, ◌-◌, ◌*◌}
 use Rattle.std.proofs.lemmas.List.Edits.{sets}
 use Rattle.model.specs.Counts.{four_counts}
 use Rattle.model.specs.Owners.{Owner, eight}
 use Rattle.model.specs.declared.FourCounts.{FourCounts}
 use Rattle.model.specs.declared.Tally.{Tally}
-use Rattle.model.specs.Lent.{LentMut, mut_at_entry, at_exit}
+use Rattle.model.specs.Lent.{SameBuffers}
+use Rattle.model.specs.declared.Buffers.{Buffers}
+use Rattle.buffers.specs.Buffers.{state_of}
 
 abbrev pub counts_of : Tally → FourCounts
 counts_of t = four_counts t.entries t.rows.at t.cones t.columns.at
@@ -22,10 +24,9 @@ owner_between t u =
 abbrev pub reowned : ℕ → Tally → Tally
 reowned k t = record { entries = t.entries; rows = t.rows; cones = t.cones; columns = t.columns; owner = k }
 
--- its eight numbers at its places of the index, and then the next owner
-pub record PutsOwner (t u : Tally) (x : List ℕ) (t' : Tally) (x' : List ℕ) : Type 0 where
-  pub says : x' ≡ sets x (8 * t.owner) (eight (owner_between t u))
+-- its eight numbers at its places of the index, and then the next owner; the other buffers stay as they are
+pub record PutsOwner (t u : Tally) (b : Buffers) (t' : Tally) (b' : Buffers) : Type 0 where
+  pub same : SameBuffers b b'
+  pub says : b'.index.now ≡ sets b.index.now (8 * t.owner) (eight (owner_between t u))
+  pub state : state_of t' b' ≡ state_of t' b
   pub next : t' ≡ reowned (t.owner + 1) u
-
-abbrev pub puts_owner : Tally → Tally → LentMut ℕ → Tally → Type 0
-puts_owner t u x t' = PutsOwner t u (mut_at_entry x) t' (at_exit x)

@@ -4,11 +4,11 @@
 
 ghost use Rattle.std.specs.Prelude.{◌≡◌, [], ◌<◌, ◌≤◌, length};
 ghost use Rattle.model.specs.Refusals.{most_stations};
-ghost use Rattle.model.specs.Lent.{at_entry};
 ghost use Rattle.model.specs.Problem.{on_grid, col_a, col_b, col_xi, L};
-ghost use Rattle.buffers.specs.Inputs.{path, Sized};
+ghost use Rattle.buffers.specs.Paths.{path_of};
 
-use model::{Column, Ends};
+use buffers::Path;
+use model::Column;
 
 // a of station k, which no grid moves.
 pub fn column_a(k: usize) -> Column
@@ -20,7 +20,7 @@ pub fn column_a(k: usize) -> Column
 // b of station k.
 pub fn column_b(grid: &[f64], k: usize) -> Column
     requires { (0 < length grid.now) × (length grid.now ≤ most_stations) × (k ≤ most_stations) }
-    ensures { result.at ≡ col_b (on_grid (at_entry grid)) k }
+    ensures { result.at ≡ col_b (on_grid grid.now) k }
 {
     Column { at: grid.len() + k }
 }
@@ -28,7 +28,7 @@ pub fn column_b(grid: &[f64], k: usize) -> Column
 // xi number j.
 pub fn column_xi(grid: &[f64], j: usize) -> Column
     requires { (0 < length grid.now) × (length grid.now ≤ most_stations) × (j ≤ most_stations) }
-    ensures { result.at ≡ col_xi (on_grid (at_entry grid)) j }
+    ensures { result.at ≡ col_xi (on_grid grid.now) j }
 {
     Column {
         at: 2 * grid.len() + j,
@@ -36,9 +36,8 @@ pub fn column_xi(grid: &[f64], j: usize) -> Column
 }
 
 // How many xi there are.
-pub fn length_xi(grid: &[f64], ends: Ends) -> usize
-    requires { Sized grid.now ends }
-    ensures { result ≡ L (path (at_entry grid) ends) }
+pub fn length_xi(path: Path) -> usize
+    ensures { result ≡ L (path_of path.entry) }
 {
-    grid.len() - numbers::larger(ends.n0, 1) - numbers::larger(ends.n1, 1)
+    path.grid.len() - path.ends.n0.max(1) - path.ends.n1.max(1)
 }

@@ -2,14 +2,17 @@
 
 #![tactic(auto)]
 
+mod scaled_torque;
+
 ghost use Rattle.std.specs.Prelude.{◌≡◌, ◌+◌, ◌*◌, ◌<◌, length};
-ghost use Rattle.model.specs.Lent.{at_entry};
 ghost use Rattle.model.specs.Numbers.{at, ◌⊗◌};
+
+pub use scaled_torque::ScaledTorque;
 
 // A torque coefficient of joint i at station k, times the joint's scale.
 pub fn scaled(table: &[f64], scales: &[f64], d: usize, k: usize, i: usize) -> f64
     requires { (k * d + i < length table.now) × (i < length scales.now) }
-    ensures { result ≡ at (at_entry table) (k * d + i) ⊗ at (at_entry scales) i }
+    ensures { result ≡ at table.now (k * d + i) ⊗ at scales.now i }
 {
     table[k * d + i] * scales[i]
 }

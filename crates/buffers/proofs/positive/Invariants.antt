@@ -1,7 +1,7 @@
-use Prim.Native.Nat.{◌≤◌}
+use Rattle.std.proofs.Common.{◌≤◌}
 use Rattle.model.specs.Program.{positive_row}
 use Rattle.buffers.specs.Buffers.{Lists}
 use Rattle.buffers.proofs.positive.Given as goal
 
 abbrev pub invariant-loop-i : goal.invariant-loop-i
-invariant-loop-i l = (l.i ≤ l.count) × Lists l.initial.u l.initial.rows l.initial.columns l.initial.values l.initial.right l.u l.rows l.columns l.values l.right positive_row l.from.at l.i 1
+invariant-loop-i l = (l.i ≤ l.count) × Lists l.initial.u l.initial.out l.u l.out positive_row l.from.at l.i 1

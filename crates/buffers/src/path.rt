@@ -1,0 +1,40 @@
+// A path that the checks accept, and the numbers that stages take from it.
+
+ghost use Rattle.std.specs.Prelude.{◌≡◌};
+ghost use Rattle.model.specs.Problem.{n, m, stop};
+ghost use Rattle.buffers.specs.Inputs.{Sized, path};
+
+use model::Ends;
+
+// The grid with its stationary counts. Refusals 4, 5 and 14 leave at least 3 stations, at most 4,097, and a moving interval.
+#[derive(Clone, Copy)]
+pub struct Path<'a> {
+    pub grid: &'a [f64],
+    pub ends: Ends,
+    ghost sized: { Sized grid.now ends },
+}
+
+impl<'a> Path<'a> {
+    // n, the last station.
+    pub fn last(self) -> usize
+        ensures { result ≡ n (path self.entry.grid.now self.entry.ends) }
+    {
+        self.grid.len() - 1
+    }
+
+    // How many intervals move.
+    #[tactic(auto, unfolding(model::specs::Problem::m))]
+    pub fn moving(self) -> usize
+        ensures { result ≡ m (path self.entry.grid.now self.entry.ends) }
+    {
+        self.grid.len() - 1 - self.ends.n0 - self.ends.n1
+    }
+
+    // The last moving station.
+    #[tactic(auto, unfolding(model::specs::Problem::stop))]
+    pub fn stop(self) -> usize
+        ensures { result ≡ stop (path self.entry.grid.now self.entry.ends) }
+    {
+        self.grid.len() - 1 - self.ends.n1
+    }
+}
