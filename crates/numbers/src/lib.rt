@@ -6,6 +6,7 @@ ghost use Rattle.std.specs.Prelude.{◌≡◌, ◌&&◌};
 ghost use Rattle.model.specs.Numbers.{finite};
 
 // Neither NaN nor infinite.
+#[tactic(auto, using(crate::proofs::Finite::finite_lem))]
 pub fn is_finite(x: f64) -> bool
     ensures { result ≡ finite x }
 {
