@@ -2,7 +2,7 @@
 
 #![tactic(auto)]
 
-ghost use Rattle.std.specs.Prelude.{◌≡◌};
+ghost use Rattle.std.specs.Prelude.{◌≡◌, Bool};
 ghost use Rattle.model.specs.Problem.{some, uses_root, is_thermal, is_torque, is_linear};
 
 use model::Objective;
@@ -33,9 +33,17 @@ pub fn uses_root(o: Objective) -> bool
     matches!(o, Objective::Time(_) | Objective::ThermalEnergy { .. })
 }
 
-// Whether any objective uses it: then there is a root stage.
+// Whether any objective passes a test.
+pub fn any_is<F: Fn(Objective) -> bool>(objectives: &[Objective], is: F) -> bool
+    requires { F.IsAlwaysCallable is }
+    ensures { (test : Objective → Bool) → ((o : Objective) (b : Bool) → F.post is o b → b ≡ test o) → result ≡ some test objectives.now }
+{
+    objectives.iter().any(|o| is(*o))
+}
+
+// Whether any objective uses the root stage: then there is one.
 pub fn has_root(objectives: &[Objective]) -> bool
     ensures { result ≡ some uses_root objectives.now }
 {
-    objectives.iter().any(|o| uses_root(*o))
+    any_is(objectives, uses_root)
 }
