@@ -8,6 +8,7 @@ use mathlib.Core.Bool.{true, false, ◌||◌, false≢true}
 use mathlib.Core.List.{List, [], ◌∷◌}
 use lib.ListN.{length, get_or, replicate}
 use lib.Ieee.{Float, of_bits}
+use Rattle.model.specs.Verdicts.{accepted}
 use Rattle.model.specs.Numbers.{at, finite, +0, +1, +2, +4, +∞}
 use Rattle.model.specs.Lists.{sum_over, total}
 use Rattle.model.specs.Problem.{Problem, on_grid, objectives, n, m, ends, some, uses_root, is_torque, is_linear}
@@ -16,7 +17,6 @@ use Rattle.model.specs.Counts.{upper, uppers, acc_inside, jerk_inside, standard_
 use Rattle.model.specs.declared.Bounds.{Bounds}
 use Rattle.model.specs.declared.Objective.{Objective}
 use Rattle.model.specs.declared.Objective.TheVariants.{Time, ThermalEnergy, TotalVariationTorque, Linear}
-use Rattle.model.specs.declared.Verdict.TheVariants.{Accepted}
 use Rattle.model.proofs.All.{All}
 use Rattle.model.proofs.Sums.{sum_over_ext, sum_over_const, sum_over_snoc}
 use Rattle.model.proofs.Bound.{shift}
@@ -66,7 +66,7 @@ rootless (ThermalEnergy w s l ∷ os) h = absurd (false≢true h.0)
 rootless (TotalVariationTorque w s l ∷ os) h = rootless os h.1
 rootless (Linear w a al b bl ∷ os) h = rootless os h.1
 
-module _ (p : Problem) (ok : refusal p ≡ Accepted) (full : Full p) where
+module _ (p : Problem) (ok : refusal p ≡ accepted) (full : Full p) where
   abbrev u : Usable p
   u = usable p ok
 
@@ -128,7 +128,7 @@ module _ (p : Problem) (ok : refusal p ≡ Accepted) (full : Full p) where
       rw (rootless (objectives p) full.kinds) (omega arith)
 
 -- whatever bounds the entries of every accepted problem is no smaller there
-pub least : (bound : Problem → ℕ) → ((p : Problem) → refusal p ≡ Accepted → (counts p).entries ≤ bound p) → (p : Problem) → refusal p ≡ Accepted → Full p → entry_bound p ≤ bound p
+pub least : (bound : Problem → ℕ) → ((p : Problem) → refusal p ≡ accepted → (counts p).entries ≤ bound p) → (p : Problem) → refusal p ≡ accepted → Full p → entry_bound p ≤ bound p
 least bound h p ok full = let b = h p ok in let e = attained p ok full in omega arith
 
 -- ---- one such problem: two intervals, a TotalVariationTorque, an acceleration row and a jerk row at station 1
@@ -152,7 +152,7 @@ two_intervals =
       roots = record { start = []; end = [] };
     }
 
-pub two_intervals_accepted : refusal two_intervals ≡ Accepted
+pub two_intervals_accepted : refusal two_intervals ≡ accepted
 unfolding everything
 two_intervals_accepted = refl
 

@@ -9,9 +9,10 @@ use lib.ListN.{length, length-map}
 use lib.Ieee.{nan}
 use lib.Dec.{ltb}
 use borrow.Author.Tests.{ltb-true}
+use Rattle.std.specs.Prelude.{Ok, Err}
 use Rattle.model.specs.Numbers.{at, finite}
 use Rattle.model.specs.Problem.{Problem, n}
-use Rattle.model.specs.Verdicts.{◌then◌, refuse, lowest}
+use Rattle.model.specs.Verdicts.{Verdict, accepted, refused, ◌then◌, refuse, lowest}
 use Rattle.model.specs.Refusals.{refusal, grid_refusal, setup_refusal, tables_refusal, bounds_refusal, objectives_refusal, lists_refusal, scales_refusal, list_refusal, table, table_if}
 use Rattle.model.specs.Assembled.{values}
 use Rattle.model.specs.Counts.{counts}
@@ -19,30 +20,29 @@ use Rattle.model.specs.Answers.{Told, outcome, sizing, Buffers, lengths, room_re
 use Rattle.model.specs.declared.FourCounts.{FourCounts}
 use Rattle.model.specs.declared.Objective.{Objective}
 use Rattle.model.specs.declared.Objective.TheVariants.{Time, ThermalEnergy, TotalVariationTorque, Linear}
-use Rattle.model.specs.declared.Verdict.{Verdict}
-use Rattle.model.specs.declared.Verdict.TheVariants.{Accepted, Refused}
+use Rattle.model.specs.declared.Refusal.{Refusal}
 use Rattle.model.proofs.Passes.{then_passes}
 use Rattle.model.proofs.Finite.{Finite, finite_lists}
 use Rattle.model.proofs.Program.{program}
 use Rattle.model.proofs.Written.{onto_all}
-use Rattle.model.proofs.Demand3.{Acceptable, accepted, all_finite_lem, demand3}
+use Rattle.model.proofs.Demand3.{Acceptable, accepted_lem, all_finite_lem, demand3}
 use Rattle.model.proofs.Room.{Enough, room_passes, HasIndex, index_passes}
 
 -- no refusal has the number 0, which tells of a success
 pub record Numbered (v : Verdict) : Type 0 where
-  pub positive : (r k : ℕ) → v ≡ Refused r k → 0 < r
+  pub positive : (r k : ℕ) → v ≡ refused r k → 0 < r
 
-numbered_accepted : Numbered Accepted
+numbered_accepted : Numbered accepted
 numbered_accepted = record { positive = λ r k e. let z : ◌≡◌ {A = ℕ} 0 1 = cc in absurd (omega arith) }
 
 numbered_then : (a b : Verdict) → Numbered a → Numbered b → Numbered (a then b)
 unfolding ◌then◌
-numbered_then Accepted b x y = y
-numbered_then (Refused r k) b x y = x
+numbered_then (Ok tt) b x y = y
+numbered_then (Err e) b x y = x
 
 numbered_refuse : (r k : ℕ) (t : Bool) → ltb 0 r ≡ true → Numbered (refuse r k t)
 unfolding refuse
-numbered_refuse r k true h = record { positive = λ s j e. let q : r ≡ s = cc in omega (arith, ltb-true 0 r h) }
+numbered_refuse r k true h = record { positive = λ s j e. let q : ◌≡◌ {A = Refusal} (record { number = r; place = k }) (record { number = s; place = j }) = cc in omega (arith, ap (λ (x : Refusal). x.number) q, ltb-true 0 r h) }
 numbered_refuse r k false h = numbered_accepted
 
 numbered_lowest : (r : ℕ) (place : ℕ → ℕ) (test : ℕ → Bool) (k c : ℕ) → ltb 0 r ≡ true → Numbered (lowest r place test k c)
@@ -81,18 +81,18 @@ module _ (p : Problem) where
 
 unchanged : (v : Verdict) (p : Problem) (b : Buffers) → (result v p b).told.number ≢ 0 → (result v p b).buffers ≡ b
 unfolding result outcome
-unchanged Accepted p b h = absurd (h refl)
-unchanged (Refused r k) p b h = refl
+unchanged (Ok tt) p b h = absurd (h refl)
+unchanged (Err e) p b h = refl
 
-refused_first : (v w : Verdict) (p : Problem) (b : Buffers) → v ≢ Accepted → (result (v then w) p b).told ≡ outcome v (counts p)
+refused_first : (v w : Verdict) (p : Problem) (b : Buffers) → v ≢ accepted → (result (v then w) p b).told ≡ outcome v (counts p)
 unfolding result ◌then◌
-refused_first Accepted w p b h = absurd (h refl)
-refused_first (Refused r k) w p b h = refl
+refused_first (Ok tt) w p b h = absurd (h refl)
+refused_first (Err e) w p b h = refl
 
-zero_accepts : (v : Verdict) (p : Problem) (b : Buffers) → Numbered v → (result v p b).told.number ≡ 0 → v ≡ Accepted
+zero_accepts : (v : Verdict) (p : Problem) (b : Buffers) → Numbered v → (result v p b).told.number ≡ 0 → v ≡ accepted
 unfolding result outcome
-zero_accepts Accepted p b h e = refl
-zero_accepts (Refused r k) p b h e = let q = h.positive r k refl in absurd (omega arith)
+zero_accepts (Ok tt) p b h e = refl
+zero_accepts (Err x) p b h e = let q = h.positive x.number x.place refl in absurd (omega arith)
 
 module _ (p : Problem) (b : Buffers) where
   -- "Refused first, by number and with every output buffer still holding its old contents"
@@ -101,7 +101,7 @@ module _ (p : Problem) (b : Buffers) where
   refused_unchanged = unchanged _ p b
 
   -- what sizing refuses the assembly refuses alike, whatever the buffers
-  pub refused_alike : refusal p ≢ Accepted → (assembly p b).told ≡ sizing p
+  pub refused_alike : refusal p ≢ accepted → (assembly p b).told ≡ sizing p
   unfolding assembly sizing
   refused_alike = refused_first (refusal p) _ p b
 
@@ -135,7 +135,7 @@ pub finite_written : (p : Problem) (b : Buffers) → (assembly p b).told.number 
 unfolding values
 finite_written p b e =
     let h = zero_only_then p b e in
-    let f = program p (accepted p h.0) in
+    let f = program p (accepted_lem p h.0) in
     let l = finite_lists p (all_finite_lem p h.0) in
     let w = (demand3 p h.0).holds b h.2 h.1 in
     record {

@@ -9,6 +9,7 @@ use mathlib.Core.List.{List, [], ◌∷◌}
 use lib.ListN.{length}
 use lib.IntN.{ℤ, pos, ◌+ℤ◌, ◌*ℤ◌, +ℤ_idl, +ℤ_idr}
 use lib.Ieee.{Float}
+use Rattle.model.specs.Verdicts.{accepted}
 use Rattle.model.specs.Numbers.{at}
 use Rattle.model.specs.Problem.{Problem, objectives, n, L, skip, some, is_linear, has_root}
 use Rattle.model.specs.Refusals.{refusal}
@@ -18,11 +19,10 @@ use Rattle.model.specs.Assembled.{width, objective_blocks, blocks, cones, entrie
 use Rattle.model.specs.Conic.{units, sum_to, coefficient, slack, Feasible, cost_at}
 use Rattle.model.specs.declared.Objective.{Objective}
 use Rattle.model.specs.declared.Objective.TheVariants.{Time}
-use Rattle.model.specs.declared.Verdict.TheVariants.{Accepted}
 use Rattle.model.proofs.All.{All, all_joined}
 use Rattle.model.proofs.Sizes.{Sizes}
 use Rattle.model.proofs.Usable.{usable, usable_sizes}
-use Rattle.model.proofs.Demand3.{Acceptable, accepted, all_finite_lem}
+use Rattle.model.proofs.Demand3.{Acceptable, accepted_lem, all_finite_lem}
 use Rattle.model.proofs.Counted.{root_width}
 use Rattle.model.proofs.Feasible.{Holds, feasible_cones, matrix_form}
 use Rattle.model.specs.Meaning.{◌≼◌, xi, RootStage, TimeMeaning, ObjectivesMeaning, first_own_column, Meaning, stations_cost, objective_cost, objectives_cost}
@@ -60,11 +60,11 @@ module _ (p : Problem) (D : ℕ) (z : ℕ → ℤ) where
       )
 
 -- by refusals 4 and 14
-sized : (p : Problem) → refusal p ≡ Accepted → Sizes p.path
+sized : (p : Problem) → refusal p ≡ accepted → Sizes p.path
 sized p ok = usable_sizes p (usable p ok)
 
 -- every problem that passes refusals 1 to 18, every D and every point; refusal 20 sees to `TwiceFinite`, refusals 1 to 18 do not (`wide_fails`, Worked.antt)
-pub means : (p : Problem) → refusal p ≡ Accepted → TwiceFinite p.path → (D : ℕ) (z : ℕ → ℤ) → 0 < D → Feasible p D z ↔ Meaning p D z
+pub means : (p : Problem) → refusal p ≡ accepted → TwiceFinite p.path → (D : ℕ) (z : ℕ → ℤ) → 0 < D → Feasible p D z ↔ Meaning p D z
 means p ok twice D z d =
     let cones = cones_say p D z (sized p ok) twice d in
     let feasible = feasible_cones D z p in
@@ -87,8 +87,8 @@ pub record Demand2 (p : Problem) : Type 0 where
   pub uncharged : (z : ℕ → ℤ) → some is_linear (objectives p) ≡ false → stations_cost p z ≡ pos 0
 
 module _ (p : Problem) (ok : Acceptable p) where
-  passed : refusal p ≡ Accepted
-  passed = accepted p ok
+  passed : refusal p ≡ accepted
+  passed = accepted_lem p ok
 
   pub demand2 : Demand2 p
   demand2 =

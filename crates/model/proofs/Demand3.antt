@@ -6,13 +6,11 @@ use mathlib.Core.Logic.{◌↔◌, ◌≢◌}
 use mathlib.Core.List.{List}
 use lib.ListN.{length, get_or}
 use Rattle.model.specs.Problem.{Problem, objectives}
-use Rattle.model.specs.Verdicts.{◌then◌}
+use Rattle.model.specs.Verdicts.{Verdict, accepted, refused, ◌then◌}
 use Rattle.model.specs.Refusals.{refusal}
 use Rattle.model.specs.Counts.{counts, entry_bound}
 use Rattle.model.specs.Owners.{index_places}
 use Rattle.model.specs.Answers.{Told, outcome, sizing, Buffers, lengths, room_refusal, index_refusal, finite_refusal, written, Result, result, assembly}
-use Rattle.model.specs.declared.Verdict.{Verdict}
-use Rattle.model.specs.declared.Verdict.TheVariants.{Accepted, Refused}
 use Rattle.model.proofs.Passes.{then_passes}
 use Rattle.model.proofs.Room.{then_accepted, needs, Enough, Short, Room, enough, short, room, room_enough, room_short, HasIndex, index_short, index_passes}
 use Rattle.model.proofs.Fits.{Small}
@@ -21,20 +19,20 @@ use Rattle.model.proofs.Written.{Writes, Formed, writes, formed}
 
 -- a problem "is accepted if no refusal of the assembly applies save for a short buffer"
 abbrev pub Acceptable : Problem → Type 0
-Acceptable p = (refusal p then finite_refusal p) ≡ Accepted
+Acceptable p = (refusal p then finite_refusal p) ≡ accepted
 
 -- refused by this number and place, and no buffer is changed
 abbrev pub refused_as : Problem → Buffers → ℕ → ℕ → Result
-refused_as p b r i = record { told = outcome (Refused r i) (counts p); buffers = b }
+refused_as p b r i = record { told = outcome (refused r i) (counts p); buffers = b }
 
 -- "For every accepted problem, whatever lengths the lent output buffers have:" Request 6: "demand 3's lengths are those of buffers 0 to 6, with an index buffer
 -- that has its places" (`HasIndex`)
 pub record Demand3 (p : Problem) : Type 0 where
   -- "sizing answers the numbers of entries, rows, cones and columns that document 01's formulas give."
-  pub sizing_counts : sizing p ≡ outcome Accepted (counts p)
+  pub sizing_counts : sizing p ≡ outcome accepted (counts p)
   -- "The assembly succeeds exactly when every buffer has its places for these four,"
-  pub succeeds_exactly : (b : Buffers) → HasIndex p b → ((assembly p b).told ≡ outcome Accepted (counts p)) ↔ Enough (counts p) b
-  pub success : (b : Buffers) → HasIndex p b → Enough (counts p) b → assembly p b ≡ record { told = outcome Accepted (counts p); buffers = written p b }
+  pub succeeds_exactly : (b : Buffers) → HasIndex p b → ((assembly p b).told ≡ outcome accepted (counts p)) ↔ Enough (counts p) b
+  pub success : (b : Buffers) → HasIndex p b → Enough (counts p) b → assembly p b ≡ record { told = outcome accepted (counts p); buffers = written p b }
   -- "so buffers of just those lengths suffice, and it then reports the same four;"
   pub just_enough : (b : Buffers) → HasIndex p b → lengths b ≡ needs (counts p) → (assembly p b).told ≡ sizing p
   -- "otherwise, .. , it is refused as no room", at the first buffer that is too short, and changes nothing
@@ -56,28 +54,28 @@ pub record Demand3 (p : Problem) : Type 0 where
   pub well_formed : (b : Buffers) → HasIndex p b → Enough (counts p) b → Formed (counts p) (assembly p b).buffers
 
 module _ (p : Problem) (ok : Acceptable p) where
-  pub accepted : refusal p ≡ Accepted
-  accepted = ((then_passes (refusal p) (finite_refusal p)).0 ok).0
+  pub accepted_lem : refusal p ≡ accepted
+  accepted_lem = ((then_passes (refusal p) (finite_refusal p)).0 ok).0
 
-  pub all_finite_lem : finite_refusal p ≡ Accepted
+  pub all_finite_lem : finite_refusal p ≡ accepted
   all_finite_lem = ((then_passes (refusal p) (finite_refusal p)).0 ok).1
 
-  sized : sizing p ≡ outcome Accepted (counts p)
+  sized : sizing p ≡ outcome accepted (counts p)
   unfolding sizing
-  sized = ap (λ (v : Verdict). outcome v (counts p)) accepted
+  sized = ap (λ (v : Verdict). outcome v (counts p)) accepted_lem
 
   module _ (b : Buffers) where
     -- nothing but the room decides
     by_room : assembly p b ≡ result (room_refusal (counts p) (lengths b) then index_refusal p (length b.index)) p b
     unfolding assembly ◌then◌
-    by_room = simp (accepted, all_finite_lem, then_accepted)
+    by_room = simp (accepted_lem, all_finite_lem, then_accepted)
 
     -- and then the index's length
     by_index : Enough (counts p) b → assembly p b ≡ result (index_refusal p (length b.index)) p b
     unfolding ◌then◌
     by_index h = by_room ∙ ap (λ (v : Verdict). result (v then index_refusal p (length b.index)) p b) (room_enough (counts p) b h)
 
-    success : HasIndex p b → Enough (counts p) b → assembly p b ≡ record { told = outcome Accepted (counts p); buffers = written p b }
+    success : HasIndex p b → Enough (counts p) b → assembly p b ≡ record { told = outcome accepted (counts p); buffers = written p b }
     unfolding result
     success x h = by_index h ∙ ap (λ (v : Verdict). result v p b) ((index_passes p b).1 x)
 
@@ -89,31 +87,31 @@ module _ (p : Problem) (ok : Acceptable p) where
     unfolding result
     no_index h l = by_index h ∙ ap (λ (v : Verdict). result v p b) (index_short p b l)
 
-    only_then : (assembly p b).told ≡ outcome Accepted (counts p) → Room (counts p) b → Enough (counts p) b
+    only_then : (assembly p b).told ≡ outcome accepted (counts p) → Room (counts p) b → Enough (counts p) b
     unfolding outcome
     only_then e (enough h) = h
     only_then e (short i s) = let z : ◌≡◌ {A = ℕ} 19 0 = sym (ap (λ (r : Result). r.told.number) (failure i s)) ∙ ap (λ (x : Told). x.number) e in absurd (omega arith)
 
-    exactly : HasIndex p b → ((assembly p b).told ≡ outcome Accepted (counts p)) ↔ Enough (counts p) b
+    exactly : HasIndex p b → ((assembly p b).told ≡ outcome accepted (counts p)) ↔ Enough (counts p) b
     exactly x = (λ e. only_then e (room (counts p) b), λ h. ap (λ (r : Result). r.told) (success x h))
 
     exact_lengths : lengths b ≡ needs (counts p) → Enough (counts p) b
     exact_lengths e = λ i lt. omega (arith, ap (λ (l : List ℕ). get_or l i 0) e)
 
-    refused : (Enough (counts p) b → ⊥) → Room (counts p) b → ((assembly p b).told.number ≡ 19) × ((assembly p b).buffers ≡ b)
+    refused_unchanged : (Enough (counts p) b → ⊥) → Room (counts p) b → ((assembly p b).told.number ≡ 19) × ((assembly p b).buffers ≡ b)
     unfolding outcome
-    refused not (enough h) = absurd (not h)
-    refused not (short i s) = (ap (λ (r : Result). r.told.number) (failure i s), ap (λ (r : Result). r.buffers) (failure i s))
+    refused_unchanged not (enough h) = absurd (not h)
+    refused_unchanged not (short i s) = (ap (λ (r : Result). r.told.number) (failure i s), ap (λ (r : Result). r.buffers) (failure i s))
 
   pub demand3 : Demand3 p
   demand3 =
-      let f = program p accepted in
+      let f = program p accepted_lem in
       record {
         sizing_counts = sized;
         succeeds_exactly = exactly;
         success = success;
         just_enough = λ b x e. (exactly b x).1 (exact_lengths b e) ∙ sym sized;
-        otherwise = λ b not. refused b not (room (counts p) b);
+        otherwise = λ b not. refused_unchanged b not (room (counts p) b);
         no_room = failure;
         one_fewer = λ b i lt e h. failure b i (record { index = lt; short = omega arith; before = λ j x. h j (omega arith) (omega arith) });
         no_index = no_index;

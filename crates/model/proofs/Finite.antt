@@ -4,11 +4,11 @@ use mathlib.Core.Bool.{true, not}
 use mathlib.Core.List.{List, [], ◌∷◌}
 use lib.Ieee.{Float}
 use borrow.Author.Tests.{not-false}
+use Rattle.model.specs.Verdicts.{accepted}
 use Rattle.model.specs.Numbers.{finite}
 use Rattle.model.specs.Problem.{Problem}
 use Rattle.model.specs.Assembled.{values, right_side, cost, all_finite}
 use Rattle.model.specs.Answers.{every_finite, finite_refusal}
-use Rattle.model.specs.declared.Verdict.TheVariants.{Accepted}
 use Rattle.model.proofs.All.{All}
 use Rattle.model.proofs.Passes.{both, refuse_passes}
 
@@ -24,7 +24,7 @@ pub record FiniteLists (p : Problem) : Type 0 where
   pub right : All Finite (right_side p)
   pub cost : All Finite (cost p)
 
-pub finite_lists : (p : Problem) → finite_refusal p ≡ Accepted → FiniteLists p
+pub finite_lists : (p : Problem) → finite_refusal p ≡ accepted → FiniteLists p
 unfolding finite_refusal
 finite_lists p e =
     let t = both _ _ (not-false _ ((refuse_passes 20 0 (not (every_finite p))).0 e)) in

@@ -3,6 +3,7 @@ use Prim.Native.Nat.{ℕ, ◌+◌, ◌≤◌}
 use native.Mathlib.Omega.{arith}
 use mathlib.Core.Path.{◌≡◌}
 use mathlib.Core.List.{List, [], ◌∷◌}
+use Rattle.model.specs.Verdicts.{accepted}
 use Rattle.model.specs.Lists.{joined, sum}
 use Rattle.model.specs.Problem.{Problem}
 use Rattle.model.specs.Program.{Block}
@@ -11,7 +12,6 @@ use Rattle.model.specs.Assembled.{blocks}
 use Rattle.model.specs.Counts.{◌plus◌}
 use Rattle.model.specs.Owners.{eight, size_of, owners_from, tally_start, owners, index}
 use Rattle.model.specs.declared.FourCounts.{FourCounts}
-use Rattle.model.specs.declared.Verdict.TheVariants.{Accepted}
 use Rattle.model.proofs.All.{All}
 use Rattle.model.proofs.Program.{program}
 use Rattle.model.proofs.Owned.{all_entries, all_rows, all_cones, all_columns}
@@ -23,7 +23,7 @@ small B t (b ∷ bs) e r c k =
     let rest = small B (t plus size_of b) bs (omega arith) (omega arith) (omega arith) (omega arith) in
     (omega arith, (omega arith, (omega arith, (omega arith, (omega arith, (omega arith, (omega arith, (omega arith, rest))))))))
 
-pub index_small : (p : Problem) → refusal p ≡ Accepted → All (λ x. x ≤ 33554431) (index p)
+pub index_small : (p : Problem) → refusal p ≡ accepted → All (λ x. x ≤ 33554431) (index p)
 unfolding index owners
 index_small p ok =
     let f = program p ok in

@@ -1,6 +1,7 @@
 -- The ledger, as one table by one proof: by sizing, by the assembly, and by the lengths of the assembled lists. Then document 01's "Traps in this Rust",
 -- each as a computed fact about the definitions.
 use mathlib.Core.Path.{◌≡◌, refl}
+use Rattle.std.specs.Prelude.{Ok}
 use mathlib.Core.List.{List, [], ◌∷◌, ◌++◌, map}
 use lib.ListN.{replicate, take, drop}
 use lib.Ieee.{Float}
@@ -22,7 +23,6 @@ use Rattle.model.specs.Answers.{sizing, outcome, told}
 use Rattle.model.specs.Answers
 use Rattle.model.specs.Ledger.{Case, Line, line, assembled_line, case_a, cases, table, given}
 use Rattle.model.specs.declared.Objective.TheVariants.{Time}
-use Rattle.model.specs.declared.Answer.TheVariants.{Counts}
 
 -- whoever unfolds this unfolds every definition that the table computes with
 unfoldable pub everything : Unit {0}
@@ -73,7 +73,7 @@ four = +0 ∷ +1 ∷ +2 ∷ +3 ∷ []
 abbrev one_time : Problem
 one_time = given +0 four 0 0 1 (Time +1 ∷ []) (replicate 4 +∞) 0
 
-pub twelve_columns : sizing one_time ≡ told (Counts 51 31 8 12)
+pub twelve_columns : sizing one_time ≡ told (Ok (Counts.four_counts 51 31 8 12))
 unfolding everything
 twelve_columns = refl
 

@@ -9,16 +9,15 @@ use lib.ListN.{length, get_or, length-append, get_or-append}
 use lib.Seq.{get_or-append-add}
 use lib.Dec.{ltb, leb, lit<}
 use borrow.Author.Tests.{ltb-true, leb-true, lt-ltb, le-leb, le-ltb}
+use Rattle.std.specs.Prelude.{Ok, Err}
 use Rattle.model.specs.Lists.{joined}
-use Rattle.model.specs.Verdicts.{◌then◌, refuse, lowest, itself}
+use Rattle.model.specs.Verdicts.{Verdict, ◌then◌, refuse, lowest, itself}
 use Rattle.model.specs.Problem.{Problem, objectives, n}
 use Rattle.model.specs.Assembled.{right_side, cost}
 use Rattle.model.specs.Answers.{Told}
 use Rattle.model.specs.Owners.{Owner, owners, eight, index, index_places}
 use Rattle.model.specs.OwnerAnswers.{owned_by, no_owner, in_range, within, lowest_owner, owner_of, owner_of_row, owner_of_column}
 use Rattle.model.specs.declared.FourCounts.{FourCounts}
-use Rattle.model.specs.declared.Verdict.{Verdict}
-use Rattle.model.specs.declared.Verdict.TheVariants.{Accepted, Refused}
 use Rattle.model.proofs.Passes.{both}
 use Rattle.model.proofs.Room.{First, lowest_none, lowest_first}
 use Rattle.model.proofs.Owned.{none, In, OneOwner, owned, index_length}
@@ -27,8 +26,8 @@ use Rattle.model.proofs.Owned.{none, In, OneOwner, owned, index_length}
 
 -- what `lowest` finds, as an owner, so that its laws (Room.antt) are those of the lowest owner
 abbrev told : Verdict → Told
-told Accepted = no_owner 29
-told (Refused r k) = owned_by k
+told (Ok tt) = no_owner 29
+told (Err e) = owned_by e.place
 
 as_lowest : (test : ℕ → Bool) (k c : ℕ) → lowest_owner test k c ≡ told (lowest 29 itself test k c)
 unfolding lowest_owner lowest refuse ◌then◌

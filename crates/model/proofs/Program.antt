@@ -2,6 +2,7 @@
 use Prim.Native.Nat.{ℕ, ◌≤◌, ◌<◌}
 use mathlib.Core.Path.{◌≡◌, ap}
 use lib.ListN.{length, get_or}
+use Rattle.model.specs.Verdicts.{accepted}
 use Rattle.model.specs.Lists.{total}
 use Rattle.model.specs.Problem.{Problem}
 use Rattle.model.specs.Program.{Entry}
@@ -9,7 +10,6 @@ use Rattle.model.specs.Refusals.{refusal}
 use Rattle.model.specs.Assembled.{entries, cones, right_side, cost, cone_dimensions, list_lengths}
 use Rattle.model.specs.Counts.{counts, entry_bound}
 use Rattle.model.specs.declared.FourCounts.{FourCounts}
-use Rattle.model.specs.declared.Verdict.TheVariants.{Accepted}
 use Rattle.model.proofs.Counted.{counted}
 use Rattle.model.proofs.Whole.{entry_inside, entry_once}
 use Rattle.model.proofs.InCone.{OneCone, dimensions_rows, row_cone}
@@ -32,7 +32,7 @@ pub record Program (p : Problem) : Type 0 where
   pub small : Small 33554431 (counts p)
   pub one_cone : (r : ℕ) → r < length (right_side p) → OneCone (cone_dimensions p) r
 
-pub program : (p : Problem) → refusal p ≡ Accepted → Program p
+pub program : (p : Problem) → refusal p ≡ accepted → Program p
 unfolding list_lengths
 program p ok =
     let u = usable p ok in

@@ -5,12 +5,12 @@ use mathlib.Core.Path.{◌≡◌, refl, sym, ap}
 use mathlib.Core.Logic.{◌≢◌}
 use lib.Ieee.{Float, binary64, neg, of_bits, to_bits}
 use lib.ListN.{length}
+use Rattle.model.specs.Verdicts.{accepted}
 use Rattle.model.specs.Numbers.{at, ◌⊗◌, +0}
 use Rattle.model.specs.Lists.{list}
 use Rattle.model.specs.Problem.{Problem, Path, n, L, skip}
 use Rattle.model.specs.Refusals.{refusal}
 use Rattle.model.specs.Objectives.{time_weights, time_block}
-use Rattle.model.specs.declared.Verdict.TheVariants.{Accepted}
 use Rattle.model.proofs.Sums.{list_cong}
 use Rattle.model.proofs.Usable.{usable, usable_sizes}
 use Rattle.model.proofs.Weights.{time_weight, weights_long, weight_at}
@@ -24,7 +24,7 @@ pub record Request3 (q : Path) : Type 0 where
   -- so that Time's own columns cost what they would cost by that list
   pub cost : (w : Float) (c : ℕ) → list (λ j. w ⊗ time_weight q (skip q + j)) 0 (L q) ≡ (time_block q w c).cost
 
-pub request3 : (p : Problem) → refusal p ≡ Accepted → Request3 p.path
+pub request3 : (p : Problem) → refusal p ≡ accepted → Request3 p.path
 unfolding time_block
 request3 p ok =
     let q = p.path in

@@ -16,7 +16,7 @@ use Rattle.model.specs.declared.Objective.TheVariants.{Time}
 use Rattle.model.proofs.All.{All}
 use Rattle.model.proofs.Usable.{usable, usable_sizes}
 use Rattle.model.proofs.Room.{Enough, HasIndex}
-use Rattle.model.proofs.Demand3.{Acceptable, accepted, demand3}
+use Rattle.model.proofs.Demand3.{Acceptable, accepted_lem, demand3}
 use Rattle.model.proofs.Owned.{none, Owned, owned, blocks_number}
 use Rattle.model.proofs.Slices.{Sliced, sliced}
 use Rattle.model.proofs.OwnersTold.{OwnersTold, owners_told}
@@ -40,7 +40,7 @@ pub record Request6 (p : Problem) : Type 0 where
 pub request6 : (p : Problem) → Acceptable p → Request6 p
 unfolding written
 request6 p ok =
-    let passed = accepted p ok in
+    let passed = accepted_lem p ok in
     record {
       covers = owned p;
       holds = λ k h. sliced p (usable_sizes p (usable p passed)) k (omega (arith, blocks_number p));

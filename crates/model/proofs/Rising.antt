@@ -14,13 +14,12 @@ use lib.Ieee.Fits.{nan-fits}
 use borrow.Author.Tests.{ltb-true, eqb-true, not-false}
 use Rattle.model.specs.Numbers.{at, ◌⊗◌, half, unfit, finite}
 use Rattle.model.specs.Problem.{Problem, Path, objectives, n, stop, s}
-use Rattle.model.specs.Verdicts.{◌then◌, lowest, itself}
+use Rattle.model.specs.Verdicts.{accepted, ◌then◌, lowest, itself}
 use Rattle.model.specs.Refusals.{refusal, boundary_refusal, grid_refusal, setup_refusal, tables_refusal, bounds_refusal, objectives_refusal}
 use Rattle.model.specs.Objectives.{time_weights}
 use Rattle.model.specs.Conic.{units}
 use Rattle.model.specs.Meaning.{◌≼◌}
 use Rattle.model.specs.declared.Objective.TheVariants.{Time}
-use Rattle.model.specs.declared.Verdict.TheVariants.{Accepted}
 use Rattle.model.proofs.All.{All}
 use Rattle.model.proofs.Sizes.{Sizes}
 use Rattle.model.proofs.Passes.{both, then_passes, refuse_passes, lowest_passes}
@@ -42,15 +41,15 @@ double_at [] h k = nan-fits binary64
 double_at (x ∷ l) h zero = h.0
 double_at (x ∷ l) h (suc k) = double_at l h.1 k
 
-module _ (p : Problem) (ok : refusal p ≡ Accepted) where
+module _ (p : Problem) (ok : refusal p ≡ accepted) where
   abbrev q : Path
   q = p.path
 
-  later : (grid_refusal q.grid then setup_refusal p.torque.d p.count p.slots (n q + 1) p.pool then tables_refusal p then bounds_refusal q p.limits) ≡ Accepted
+  later : (grid_refusal q.grid then setup_refusal p.torque.d p.count p.slots (n q + 1) p.pool then tables_refusal p then bounds_refusal q p.limits) ≡ accepted
   unfolding refusal
   later = ((then_passes (boundary_refusal p.boundary) _).0 ok).1
 
-  grid_passes : (lowest 6 itself (λ k. not (finite (at q.grid k))) 0 (length q.grid) ≡ Accepted) × (lowest 7 itself (λ k. not (lt (at q.grid (k - 1)) (at q.grid k))) 1 (length q.grid - 1) ≡ Accepted)
+  grid_passes : (lowest 6 itself (λ k. not (finite (at q.grid k))) 0 (length q.grid) ≡ accepted) × (lowest 7 itself (λ k. not (lt (at q.grid (k - 1)) (at q.grid k))) 1 (length q.grid - 1) ≡ accepted)
   unfolding grid_refusal
   grid_passes = (simp (then_passes, refuse_passes) at ((then_passes (grid_refusal q.grid) _).0 later).0).1.1
 

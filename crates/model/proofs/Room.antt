@@ -9,19 +9,18 @@ use mathlib.Core.List.{List, [], ◌∷◌}
 use lib.ListN.{length, get_or}
 use lib.Dec.{ltb}
 use borrow.Author.Tests.{ltb-true, ltb-false, lt-ltb, le-ltb}
-use Rattle.model.specs.Verdicts.{◌then◌, refuse, lowest, itself}
+use Rattle.std.specs.Prelude.{Ok, Err}
+use Rattle.model.specs.Verdicts.{Verdict, accepted, refused, ◌then◌, refuse, lowest, itself}
 use Rattle.model.specs.Problem.{Problem, objectives}
 use Rattle.model.specs.Owners.{index_places}
 use Rattle.model.specs.Answers.{Buffers, lengths, room_refusal, index_refusal}
 use Rattle.model.specs.declared.FourCounts.{FourCounts}
-use Rattle.model.specs.declared.Verdict.{Verdict}
-use Rattle.model.specs.declared.Verdict.TheVariants.{Accepted, Refused}
 use Rattle.model.proofs.Passes.{refuse_passes}
 
-pub then_accepted : (v : Verdict) → (v then Accepted) ≡ v
+pub then_accepted : (v : Verdict) → (v then accepted) ≡ v
 unfolding ◌then◌
-then_accepted Accepted = refl
-then_accepted (Refused r k) = refl
+then_accepted (Ok tt) = refl
+then_accepted (Err e) = refl
 
 -- ---- what `lowest` finds, for any test
 
@@ -55,17 +54,17 @@ module _ (test : ℕ → Bool) where
   look k (suc c) = look_step k c (test k) refl (look (suc k) c)
 
   module _ (r : ℕ) (place : ℕ → ℕ) where
-    pub lowest_none : (k c : ℕ) → ((i : ℕ) → k ≤ i → i < k + c → test i ≡ false) → lowest r place test k c ≡ Accepted
+    pub lowest_none : (k c : ℕ) → ((i : ℕ) → k ≤ i → i < k + c → test i ≡ false) → lowest r place test k c ≡ accepted
     unfolding lowest refuse ◌then◌
     lowest_none k zero h = refl
     lowest_none k (suc c) h = simp (h k (omega arith) (omega arith)) (lowest_none (suc k) c (λ i a b. h i (omega arith) (omega arith)))
 
-    pub lowest_first : (k c i : ℕ) → i < k + c → First test k i → lowest r place test k c ≡ Refused r (place i)
+    pub lowest_first : (k c i : ℕ) → i < k + c → First test k i → lowest r place test k c ≡ refused r (place i)
     unfolding lowest refuse ◌then◌
     lowest_first k zero i lt f = absurd (omega arith)
     lowest_first k (suc c) i lt f = go (λ x y. lowest_first (suc k) c i x y) (ℕ_discrete k i)
       where
-        go : (i < suc k + c → First test (suc k) i → lowest r place test (suc k) c ≡ Refused r (place i)) → Dec (k ≡ i) → lowest r place test k (suc c) ≡ Refused r (place i)
+        go : (i < suc k + c → First test (suc k) i → lowest r place test (suc k) c ≡ refused r (place i)) → Dec (k ≡ i) → lowest r place test k (suc c) ≡ refused r (place i)
         go next (yes q) = simp (q, f.passes)
         go next (no q) =
             simp (f.earlier k (omega arith) (omega arith))
@@ -99,10 +98,10 @@ module _ (t : FourCounts) (b : Buffers) where
   unfolding room_refusal lowest
   room_lowest = simp then_accepted
 
-  pub room_enough : Enough t b → room_refusal t (lengths b) ≡ Accepted
+  pub room_enough : Enough t b → room_refusal t (lengths b) ≡ accepted
   room_enough h = rw room_lowest (lowest_none missing 19 itself 0 7 (λ i _ lt. le-ltb (get_or (lengths b) i 0) (get_or (needs t) i 0) (h i lt)))
 
-  pub room_short : (i : ℕ) → Short t b i → room_refusal t (lengths b) ≡ Refused 19 i
+  pub room_short : (i : ℕ) → Short t b i → room_refusal t (lengths b) ≡ refused 19 i
   room_short i s =
       rw room_lowest
       (lowest_first missing 19 itself 0 7 i s.index
@@ -125,10 +124,10 @@ module _ (t : FourCounts) (b : Buffers) where
             before = λ j x. ltb-false (get_or (lengths b) j 0) (get_or (needs t) j 0) (f.earlier j (omega arith) x);
           })
 
-  pub room_passes : (room_refusal t (lengths b) ≡ Accepted) ↔ Enough t b
+  pub room_passes : (room_refusal t (lengths b) ≡ accepted) ↔ Enough t b
   room_passes = (λ e. go e room, room_enough)
     where
-      go : room_refusal t (lengths b) ≡ Accepted → Room t b → Enough t b
+      go : room_refusal t (lengths b) ≡ accepted → Room t b → Enough t b
       go e (enough h) = h
       go e (short i s) = let z : ◌≡◌ {A = ℕ} 0 1 = cc (room_short i s) in absurd (omega arith)
 
@@ -139,11 +138,11 @@ abbrev pub HasIndex : Problem → Buffers → Type 0
 HasIndex p b = index_places (length (objectives p)) ≤ length b.index
 
 module _ (p : Problem) (b : Buffers) where
-  pub index_short : length b.index < index_places (length (objectives p)) → index_refusal p (length b.index) ≡ Refused 28 0
+  pub index_short : length b.index < index_places (length (objectives p)) → index_refusal p (length b.index) ≡ refused 28 0
   unfolding index_refusal refuse
   index_short h = rw (lt-ltb (length b.index) (index_places (length (objectives p))) h)
 
-  pub index_passes : (index_refusal p (length b.index) ≡ Accepted) ↔ HasIndex p b
+  pub index_passes : (index_refusal p (length b.index) ≡ accepted) ↔ HasIndex p b
   unfolding index_refusal
   index_passes =
       let t = refuse_passes 28 0 (ltb (length b.index) (index_places (length (objectives p)))) in

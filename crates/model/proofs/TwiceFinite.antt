@@ -4,6 +4,7 @@ use native.Mathlib.Omega.{arith}
 use mathlib.Core.Path.{◌≡◌}
 use mathlib.Core.Bool.{true}
 use mathlib.Core.List.{List, [], ◌∷◌}
+use Rattle.model.specs.Verdicts.{accepted}
 use Rattle.model.specs.Numbers.{finite, ◌⊗◌, −2}
 use Rattle.model.specs.Lists.{list, joined}
 use Rattle.model.specs.Problem.{Problem, Path, stop, spacing}
@@ -11,7 +12,6 @@ use Rattle.model.specs.Program.{Cell, Band, Cone, Block, Entry, entry, entries_f
 use Rattle.model.specs.Standard.{interval_rows, first_order, inequalities, standard}
 use Rattle.model.specs.Assembled.{blocks, cones, bands, entries, values}
 use Rattle.model.specs.Answers.{finite_refusal}
-use Rattle.model.specs.declared.Verdict.TheVariants.{Accepted}
 use Rattle.model.proofs.All.{All, all_append, all_list, all_over, all_map, all_joined}
 use Rattle.model.proofs.Sizes.{Sizes}
 use Rattle.model.proofs.Finite.{Finite, finite_lists}
@@ -38,7 +38,7 @@ bands_finite r (b ∷ bs) e =
     (columns_finite b.columns b.height r g.0, bands_finite (r + b.height) bs g.1)
 
 module _ (p : Problem) where
-  pub accepted_twice_finite : Sizes p.path → finite_refusal p ≡ Accepted → TwiceFinite p.path
+  pub accepted_twice_finite : Sizes p.path → finite_refusal p ≡ accepted → TwiceFinite p.path
   unfolding values entries bands cones blocks standard inequalities first_order interval_rows
   accepted_twice_finite l e k u v =
       let all = bands_finite 0 (bands p) ((all_map Finite (λ (e : Entry). e.value) (entries p)).0 (finite_lists p e).values) in

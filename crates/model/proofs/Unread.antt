@@ -9,11 +9,12 @@ use lib.ListN.{length, get_or, take, set, replicate, length-map, length-set}
 use lib.Seq.{get_or-set_other}
 use lib.Dec.{ltb}
 use lib.Ieee.{Float, nan}
+use Rattle.std.specs.Prelude.{Ok, Err}
 use Rattle.model.specs.Numbers.{at, +0}
 use Rattle.model.specs.Lists.{joined}
 use Rattle.model.specs.Problem.{Problem, Limits, objectives, n, some, is_thermal}
 use Rattle.model.specs.Program.{dimension, entries_from, right_sides}
-use Rattle.model.specs.Verdicts.{◌then◌, refuse}
+use Rattle.model.specs.Verdicts.{Verdict, accepted, ◌then◌, refuse}
 use Rattle.model.specs.Refusals.{refusal}
 use Rattle.model.specs.Assembled.{cost_after, cones, bands, entries, right_side, cost, row_numbers, column_numbers, values, cone_kinds, cone_dimensions, list_lengths, all_finite}
 use Rattle.model.specs.Counts.{counts}
@@ -23,8 +24,6 @@ use Rattle.model.specs.Used.{Same, Inner, SameLimits, SameTorque, SameFor, Agree
 use Rattle.model.specs.declared.Bounds.{Bounds}
 use Rattle.model.specs.declared.Objective.{Objective}
 use Rattle.model.specs.declared.Objective.TheVariants.{Time, ThermalEnergy, TotalVariationTorque, Linear}
-use Rattle.model.specs.declared.Verdict.{Verdict}
-use Rattle.model.specs.declared.Verdict.TheVariants.{Accepted, Refused}
 use Rattle.model.proofs.Counted.{same_counts, counted}
 use Rattle.model.proofs.Sizes.{Sizes}
 use Rattle.model.proofs.Usable.{usable, usable_sizes}
@@ -103,18 +102,18 @@ module _ (p p' : Problem) (u : Agree p (merged p p')) where
 
     result_same : (v : Verdict) (b : Buffers) → result v p b ≡ result v r b
     unfolding result outcome
-    result_same Accepted b = λ i. record { told = outcome Accepted (counts_same i); buffers = written_same b i }
-    result_same (Refused k at) b = refl
+    result_same (Ok tt) b = λ i. record { told = outcome accepted (counts_same i); buffers = written_same b i }
+    result_same (Err e) b = refl
 
   answers : (v : Verdict) → refusal p ≡ v → SameAnswers p r
   unfolding sizing assembly result outcome ◌then◌
-  answers Accepted e =
+  answers (Ok tt) e =
       let l = usable_sizes p (usable p e) in
       record {
         sizing = λ i. outcome (refusal_same p p' u i) (counts_same l i);
         assembly = λ b. result_same l (verdict_of p (lengths b) (length b.index)) b ∙ ap (λ v. result v r b) (verdict_same l (lengths b) (length b.index));
       }
-  answers (Refused k at) e = let e' : refusal r ≡ Refused k at = sym (refusal_same p p' u) ∙ e in record { sizing = rw (e, e'); assembly = λ b. rw (e, e') }
+  answers (Err x) e = let e' : refusal r ≡ Err x = sym (refusal_same p p' u) ∙ e in record { sizing = rw (e, e'); assembly = λ b. rw (e, e') }
 
 pub unread : (p p' : Problem) → Agree p p' → SameAnswers p p'
 unread p p' u =

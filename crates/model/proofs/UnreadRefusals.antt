@@ -9,16 +9,15 @@ use lib.ListN.{length, get_or, length-take, length-drop}
 use lib.Dec.{ltb, eqb}
 use lib.Ieee.{Float, nan}
 use borrow.Author.Tests.{lt-ltb, le-ltb, eqb-true}
+use Rattle.std.specs.Prelude.{Ok, Err}
 use Rattle.model.specs.Numbers.{at, unusable, unfit}
 use Rattle.model.specs.Lists.{part}
 use Rattle.model.specs.Problem.{Problem, Path, objectives, n, m, weight, some, is_thermal, is_torque, is_linear}
-use Rattle.model.specs.Verdicts.{◌then◌, refuse, lowest}
+use Rattle.model.specs.Verdicts.{Verdict, accepted, ◌then◌, refuse, lowest}
 use Rattle.model.specs.Refusals.{boundary_refusal, grid_refusal, list_refusal, scales_refusal, lists_refusal, objectives_refusal, setup_refusal, table_if, tables_refusal, unusable_end, crossed, bounds_refusal, refusal}
 use Rattle.model.specs.Used.{SameTorque, SameFor, Agree}
 use Rattle.model.specs.declared.Boundary.{Boundary}
 use Rattle.model.specs.declared.Bounds.{Bounds}
-use Rattle.model.specs.declared.Verdict.{Verdict}
-use Rattle.model.specs.declared.Verdict.TheVariants.{Accepted, Refused}
 use Rattle.model.specs.declared.Objective.{Objective}
 use Rattle.model.specs.declared.Objective.TheVariants.{Time, ThermalEnergy, TotalVariationTorque, Linear}
 use Rattle.model.proofs.Passes.{passing}
@@ -54,10 +53,10 @@ pub end_same : {B : Type 0} (F : ℕ → Bounds → B) (c : ℕ) {b b' : Bounds}
 end_same F zero z h = z
 end_same F (suc c) z h = ap (F (suc c)) (h (omega arith))
 
-then_ext : (v : Verdict) {w w' : Verdict} → (v ≡ Accepted → w ≡ w') → (v then w) ≡ (v then w')
+then_ext : (v : Verdict) {w w' : Verdict} → (v ≡ accepted → w ≡ w') → (v then w) ≡ (v then w')
 unfolding ◌then◌
-then_ext Accepted h = h refl
-then_ext (Refused r k) h = refl
+then_ext (Ok tt) h = h refl
+then_ext (Err e) h = refl
 
 lowest_ext : (r : ℕ) (place : ℕ → ℕ) (s t : ℕ → Bool) (k c : ℕ) → ((i : ℕ) → k ≤ i → i < k + c → s i ≡ t i) → lowest r place s k c ≡ lowest r place t k c
 unfolding lowest

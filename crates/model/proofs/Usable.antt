@@ -13,9 +13,8 @@ use lib.Ieee.{nan}
 use borrow.Author.Tests.{ltb-false, eqb-true, not-false}
 use Rattle.model.specs.Problem.{Problem, objectives, n, some, is_thermal, is_torque, is_linear}
 pub use Rattle.model.proofs.Ready.{Listed, TorqueTables, ThermalTables, RootTables, Ready, Counting, CountingWith, Usable}
-use Rattle.model.specs.Verdicts.{lowest, itself}
+use Rattle.model.specs.Verdicts.{accepted, lowest, itself}
 use Rattle.model.specs.Refusals.{refusal, grid_refusal, setup_refusal, tables_refusal, objectives_refusal, lists_refusal, scales_refusal, list_refusal}
-use Rattle.model.specs.declared.Verdict.TheVariants.{Accepted}
 use Rattle.model.specs.declared.Objective.{Objective}
 use Rattle.model.specs.declared.Objective.TheVariants.{Time, ThermalEnergy, TotalVariationTorque, Linear}
 use Rattle.model.proofs.All.{All}
@@ -23,7 +22,7 @@ use Rattle.model.proofs.Sizes.{Sizes, sizes}
 use Rattle.model.proofs.Passes.{passing, then_passes, refuse_passes, lowest_passes}
 
 -- numbers past the end are 0
-few : (b : ℕ) (l : List ℕ) (k : ℕ) → length l ≡ k → lowest 16 itself (λ i. ltb b (get_or l i 0)) 0 k ≡ Accepted → (i : ℕ) → get_or l i 0 ≤ b
+few : (b : ℕ) (l : List ℕ) (k : ℕ) → length l ≡ k → lowest 16 itself (λ i. ltb b (get_or l i 0)) 0 k ≡ accepted → (i : ℕ) → get_or l i 0 ≤ b
 few b l k e h i = go (dec_lt i k)
   where
     go : Dec (i < k) → get_or l i 0 ≤ b
@@ -31,11 +30,11 @@ few b l k e h i = go (dec_lt i k)
     go (no ge) = let z = get_or-eq_default l 0 {n = i} (omega arith) in omega arith
 
 module _ (p : Problem) where
-  list_passes : (i need start len : ℕ) → list_refusal p.pool i need start len ≡ Accepted → Listed p need start len
+  list_passes : (i need start len : ℕ) → list_refusal p.pool i need start len ≡ accepted → Listed p need start len
   unfolding list_refusal
   list_passes i need start len e = let h = simp passing at e in record { long = eqb-true len need (not-false (eqb len need) h.0); within = h.1 }
 
-  scales_pass : (i start len : ℕ) → scales_refusal p.pool p.torque.d i start len ≡ Accepted → Listed p p.torque.d start len
+  scales_pass : (i start len : ℕ) → scales_refusal p.pool p.torque.d i start len ≡ accepted → Listed p p.torque.d start len
   unfolding scales_refusal
   scales_pass i start len e = list_passes i p.torque.d start len ((then_passes _ _).0 e).0
 
@@ -48,7 +47,7 @@ module _ (p : Problem) where
       record { thermal = λ q. h.thermal (simp (q, or-true)); torque = λ q. h.torque (simp (q, or-true)); roots = λ q. h.roots (simp (q, or-true)) }
 
   module _ (grid : 2 < length p.path.grid) where
-    ready_one : (i : ℕ) (o : Objective) → lists_refusal p.pool p.torque.d (n p.path + 1) i o ≡ Accepted → Counting p (is_thermal o) (is_torque o) (is_linear o) → Ready p o
+    ready_one : (i : ℕ) (o : Objective) → lists_refusal p.pool p.torque.d (n p.path + 1) i o ≡ accepted → Counting p (is_thermal o) (is_torque o) (is_linear o) → Ready p o
     unfolding lists_refusal
     ready_one i (Time w) e t = tt
     ready_one i (ThermalEnergy w start len) e t = (scales_pass i start len e, t.thermal refl)
@@ -59,7 +58,7 @@ module _ (p : Problem) where
         let l = list_passes i (n p.path + 1) b bl f.1 in
         (omega arith, omega arith, t.roots refl)
 
-    ready_all : (i : ℕ) (os : List Objective) → objectives_refusal p.pool p.torque.d (n p.path + 1) i os ≡ Accepted → CountingWith p os → All (Ready p) os
+    ready_all : (i : ℕ) (os : List Objective) → objectives_refusal p.pool p.torque.d (n p.path + 1) i os ≡ accepted → CountingWith p os → All (Ready p) os
     unfolding objectives_refusal
     ready_all i [] e t = tt
     ready_all i (o ∷ os) e t =
@@ -78,7 +77,7 @@ module _ (p : Problem) where
         let k : n p.path + 1 ≡ length p.path.grid = omega arith in
         e ∙ ap (λ (x : ℕ). p.torque.d * x) k ∙ mul_comm p.torque.d (length p.path.grid)
 
-  pub usable : refusal p ≡ Accepted → Usable p
+  pub usable : refusal p ≡ accepted → Usable p
   unfolding refusal grid_refusal setup_refusal tables_refusal
   usable ok =
       let h = simp passing at ok in

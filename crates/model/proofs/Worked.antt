@@ -9,6 +9,7 @@ use lib.ListN.{get_or, replicate}
 use lib.IntN.{ℤ, pos, neg_ℤ, ◌+ℤ◌, ◌-ℤ◌, ◌*ℤ◌, zero-*ℤ}
 use lib.Signed.{◌≤ℤ◌, le_z_yes}
 use lib.Ieee.{binary64, of_bits}
+use Rattle.model.specs.Verdicts.{accepted}
 use Rattle.model.specs.Numbers.{finite, ◌⊗◌, +0, +1, +2, −2, +∞}
 use Rattle.model.specs.Problem.{Problem, Torque, L, skip, stop, spacing}
 use Rattle.model.specs.Refusals.{refusal}
@@ -17,7 +18,6 @@ use Rattle.model.specs.Conic
 use Rattle.model.specs.Ledger.{case_a, given}
 use Rattle.model.specs.declared.Boundary.{Boundary}
 use Rattle.model.specs.declared.Objective.TheVariants.{TotalVariationTorque, Linear}
-use Rattle.model.specs.declared.Verdict.TheVariants.{Accepted}
 use Rattle.model.proofs.Integers.{View, over, under, view, AsDiff, is, as_diff, differences}
 use Rattle.model.specs.Meaning.{one, Meaning}
 use Rattle.model.proofs.Units.{one_above, units_zero}
@@ -110,7 +110,7 @@ linear = given +0 (+0 ∷ of_bits binary64 0x7fe0000000000000 ∷ of_bits binary
 abbrev wide : Problem
 wide = changed (record { a0 = of_bits binary64 0x7fe0000000000000; a1 = of_bits binary64 0x7fd0000000000000; b0 = −2; b1 = +0 }) linear.torque linear
 
-pub wide_passes : refusal wide ≡ Accepted
+pub wide_passes : refusal wide ≡ accepted
 unfolding everything
 wide_passes = refl
 

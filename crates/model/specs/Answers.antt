@@ -1,8 +1,8 @@
 -- What sizing and the assembly answer, and what the eight buffers then hold.
-use Rattle.std.specs.Prelude.{◌&&◌, ◌∷◌, ◌++◌}
-use Rattle.model.specs.Base.{ℕ, Bool, not, List, [], length, get_or, drop, ltb, Float, Verdict, Accepted, Refused, Answer, Refusal, Counts, FourCounts}
+use Rattle.std.specs.Prelude.{◌&&◌, ◌∷◌, ◌++◌, Ok, Err}
+use Rattle.model.specs.Base.{ℕ, Bool, not, List, [], length, get_or, drop, ltb, Float, FourCounts}
 use Rattle.model.specs.Problem.{Problem, objectives}
-use Rattle.model.specs.Verdicts.{◌then◌, refuse}
+use Rattle.model.specs.Verdicts.{Verdict, Answer, ◌then◌, refuse}
 use Rattle.model.specs.Refusals.{refusal}
 use Rattle.model.specs.Assembled.{row_numbers, column_numbers, values, right_side, cone_kinds, cone_dimensions, cost, all_finite}
 use Rattle.model.specs.Counts.{counts}
@@ -15,12 +15,12 @@ pub record Told : Type 0 where
   pub values : List ℕ
 
 abbrev pub told : Answer → Told
-told (Refusal r k) = record { number = r; values = k ∷ [] }
-told (Counts e r c k) = record { number = 0; values = e ∷ r ∷ c ∷ k ∷ [] }
+told (Ok t) = record { number = 0; values = t.entries ∷ t.rows ∷ t.cones ∷ t.columns ∷ [] }
+told (Err e) = record { number = e.number; values = e.place ∷ [] }
 
 unfoldable pub outcome : Verdict → FourCounts → Told
-outcome Accepted t = record { number = 0; values = t.entries ∷ t.rows ∷ t.cones ∷ t.columns ∷ [] }
-outcome (Refused r k) t = record { number = r; values = k ∷ [] }
+outcome (Ok tt) t = told (Ok t)
+outcome (Err e) t = told (Err e)
 
 -- "Sizing takes the same input without buffers and gives every refusal tested before 19, or the four counts."
 unfoldable pub sizing : Problem → Told
@@ -105,8 +105,8 @@ answered a b = record { told = told a; buffers = b }
 
 -- "A refusal changes no byte of any buffer."
 unfoldable pub result : Verdict → Problem → Buffers → Result
-result Accepted p b = record { told = outcome Accepted (counts p); buffers = written p b }
-result (Refused r k) p b = record { told = outcome (Refused r k) (counts p); buffers = b }
+result (Ok tt) p b = record { told = outcome (Ok tt) (counts p); buffers = written p b }
+result (Err e) p b = record { told = outcome (Err e) (counts p); buffers = b }
 
 -- checks go in rising number: 1 to 18, then 19 for buffers of these lengths, then 20; 28, for an index of this length, is "directly after 19"
 abbrev pub verdict_of : Problem → List ℕ → ℕ → Verdict

@@ -8,10 +8,4 @@ pub use Rattle.model.specs.declared.Bounds.{Bounds}
 pub use Rattle.model.specs.declared.Job.{Job}
 pub use Rattle.model.specs.declared.Objective.{Objective}
 pub use Rattle.model.specs.declared.Objective.TheVariants.{Time, ThermalEnergy, TotalVariationTorque, Linear}
-pub use Rattle.model.specs.declared.Verdict.{Verdict}
-pub use Rattle.model.specs.declared.Verdict.TheVariants.{Accepted, Refused}
-pub use Rattle.model.specs.declared.Answer.{Answer}
-pub use Rattle.model.specs.declared.Answer.TheVariants.{Refusal, Counts}
 pub use Rattle.model.specs.declared.FourCounts.{FourCounts}
-pub use Rattle.model.specs.declared.OwnerAnswer.{OwnerAnswer}
-pub use Rattle.model.specs.declared.OwnerAnswer.TheVariants.{StandardRows, RootStage, ObjectiveNumber, IndexTooShort, NotCovered}

@@ -1,9 +1,10 @@
 -- "The ledger program": its fourteen cases, and the table that it prints. The proof is proofs/Ledger.antt.
-use Rattle.std.specs.Prelude.{◌*◌, ◌∷◌, ◌++◌}
-use Rattle.model.specs.Base.{ℕ, List, [], length, replicate, Float, nan, Objective, Time, ThermalEnergy, TotalVariationTorque, Linear, Answer, Refusal, Counts, FourCounts}
+use Rattle.std.specs.Prelude.{◌*◌, ◌∷◌, ◌++◌, Ok}
+use Rattle.model.specs.Base.{ℕ, List, [], length, replicate, Float, nan, Objective, Time, ThermalEnergy, TotalVariationTorque, Linear, FourCounts}
 use Rattle.model.specs.Numbers.{+0, +1, +2, +3, +4, −1, +∞}
 use Rattle.model.specs.Problem.{Problem, objectives}
-use Rattle.model.specs.Counts.{counts}
+use Rattle.model.specs.Verdicts.{Answer, refused}
+use Rattle.model.specs.Counts.{four_counts, counts}
 use Rattle.model.specs.Owners.{index_places}
 use Rattle.model.specs.Answers.{Told, told, sizing, assembly, Buffers}
 
@@ -106,18 +107,18 @@ says x a = record { name = x; told = told a }
 
 abbrev pub table : List Line
 table =
-    says A (Counts 32 19 6 8)
-    ∷ says B (Counts 37 23 8 9)
-    ∷ says C (Counts 37 27 8 12)
-    ∷ says D (Refusal 14 0)
-    ∷ says E (Counts 43 15 3 8)
-    ∷ says F (Counts 33 18 5 8)
-    ∷ says G (Counts 58 33 8 13)
-    ∷ says H (Counts 23 11 2 6)
-    ∷ says I (Counts 33 20 6 8)
-    ∷ says J (Refusal 11 0)
-    ∷ says K (Refusal 2 0)
-    ∷ says L (Refusal 7 2)
-    ∷ says M (Counts 44 23 6 8)
-    ∷ says N (Refusal 4 0)
+    says A (Ok (four_counts 32 19 6 8))
+    ∷ says B (Ok (four_counts 37 23 8 9))
+    ∷ says C (Ok (four_counts 37 27 8 12))
+    ∷ says D (refused 14 0)
+    ∷ says E (Ok (four_counts 43 15 3 8))
+    ∷ says F (Ok (four_counts 33 18 5 8))
+    ∷ says G (Ok (four_counts 58 33 8 13))
+    ∷ says H (Ok (four_counts 23 11 2 6))
+    ∷ says I (Ok (four_counts 33 20 6 8))
+    ∷ says J (refused 11 0)
+    ∷ says K (refused 2 0)
+    ∷ says L (refused 7 2)
+    ∷ says M (Ok (four_counts 44 23 6 8))
+    ∷ says N (refused 4 0)
     ∷ []

@@ -1,8 +1,16 @@
 -- Request 6: who owns a row or a column. "The answer takes any index with a number of objectives".
-use Rattle.std.specs.Prelude.{◌+◌, ◌*◌, ◌&&◌, ◌∷◌}
-use Rattle.model.specs.Base.{ℕ, zero, suc, Bool, cond, List, [], length, get_or, ltb, leb, OwnerAnswer, StandardRows, RootStage, ObjectiveNumber, IndexTooShort, NotCovered}
+use Rattle.std.specs.Prelude.{◌+◌, ◌*◌, ◌&&◌, ◌∷◌, Result, Ok, Err}
+use Rattle.model.specs.Base.{ℕ, zero, suc, Bool, cond, List, [], length, get_or, ltb, leb}
+use Rattle.model.specs.declared.Owner.{Owner}
+use Rattle.model.specs.declared.Owner.TheVariants.{StandardRows, RootStage, ObjectiveNumber}
+use Rattle.model.specs.declared.OwnerRefusal.{OwnerRefusal}
+use Rattle.model.specs.declared.OwnerRefusal.TheVariants.{IndexTooShort, NotCovered}
 use Rattle.model.specs.Owners.{index_places}
 use Rattle.model.specs.Answers.{Told}
+
+-- src/lib.rt's OwnerAnswer
+abbrev pub OwnerAnswer : Type 0
+OwnerAnswer = Result Owner OwnerRefusal
 
 -- 0 and the owner's place in the order; or a refusal's number, with place 0
 abbrev pub owned_by : ℕ → Told
@@ -13,11 +21,11 @@ no_owner r = record { number = r; values = 0 ∷ [] }
 
 -- "When an answer is an enum, a definition sets out this paper's number and values for each of its cases"
 abbrev pub told_owner : OwnerAnswer → Told
-told_owner StandardRows = owned_by 0
-told_owner RootStage = owned_by 1
-told_owner (ObjectiveNumber i) = owned_by (2 + i)
-told_owner IndexTooShort = no_owner 28
-told_owner NotCovered = no_owner 29
+told_owner (Ok StandardRows) = owned_by 0
+told_owner (Ok RootStage) = owned_by 1
+told_owner (Ok (ObjectiveNumber i)) = owned_by (2 + i)
+told_owner (Err IndexTooShort) = no_owner 28
+told_owner (Err NotCovered) = no_owner 29
 
 -- the range of so many numbers from `first` on holds r
 unfoldable pub in_range : ℕ → ℕ → ℕ → Bool

@@ -1,10 +1,10 @@
 -- Refusals 1 to 18, in document 01's order.
 use Rattle.std.specs.Prelude.{◌+◌, ◌-◌, ◌*◌, ◌&&◌, ◌||◌, ◌∷◌}
-use Rattle.model.specs.Base.{ℕ, suc, max, Bool, not, List, [], length, take, get_or, ltb, leb, eqb, Float, lt, Boundary, Bounds, Objective, Time, ThermalEnergy, TotalVariationTorque, Linear, Verdict, Accepted}
+use Rattle.model.specs.Base.{ℕ, suc, max, Bool, not, List, [], length, take, get_or, ltb, leb, eqb, Float, lt, Boundary, Bounds, Objective, Time, ThermalEnergy, TotalVariationTorque, Linear}
 use Rattle.model.specs.Numbers.{at, finite, unusable, negative, is_zero, unfit, +0}
 use Rattle.model.specs.Lists.{total, part}
 use Rattle.model.specs.Problem.{Problem, Path, Limits, objectives, n, m, weight, some, is_thermal, is_torque, is_linear}
-use Rattle.model.specs.Verdicts.{◌then◌, refuse, lowest, itself}
+use Rattle.model.specs.Verdicts.{Verdict, accepted, ◌then◌, refuse, lowest, itself}
 
 -- the most stations, joints, objectives, and rows of a station in a table: "5 more than 4,097", "8 d is outside 1 to 32", "10 more than 16", "16 a row count is above 256"
 abbrev pub most_stations : ℕ
@@ -53,14 +53,14 @@ scales_refusal pool d i start len =
     then lowest 13 (λ j. i) (λ j. unfit (at (part pool start len) j)) 0 len
 
 unfoldable pub lists_refusal : List Float → ℕ → ℕ → ℕ → Objective → Verdict
-lists_refusal pool d stations i (Time w) = Accepted
+lists_refusal pool d stations i (Time w) = accepted
 lists_refusal pool d stations i (ThermalEnergy w start len) = scales_refusal pool d i start len
 lists_refusal pool d stations i (TotalVariationTorque w start len) = scales_refusal pool d i start len
 lists_refusal pool d stations i (Linear w alpha alpha_len beta beta_len) = list_refusal pool i stations alpha alpha_len then list_refusal pool i stations beta beta_len
 
 -- "Then per objective, in order, place its index: 11 weight NaN, infinite or negative; 12 ..; 13 .."
 unfoldable pub objectives_refusal : List Float → ℕ → ℕ → ℕ → List Objective → Verdict
-objectives_refusal pool d stations i [] = Accepted
+objectives_refusal pool d stations i [] = accepted
 objectives_refusal pool d stations i (o ∷ os) =
     refuse 11 i (unfit (weight o)) then lists_refusal pool d stations i o then objectives_refusal pool d stations (suc i) os
 

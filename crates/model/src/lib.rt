@@ -92,7 +92,7 @@ pub struct Tally {
 }
 
 // The four counts that sizing answers.
-#[derive(Clone, Copy)]
+#[derive(Clone, Copy, PartialEq, Eq, Debug, Default)]
 pub struct FourCounts {
     pub entries: usize,
     pub rows: usize,
@@ -100,37 +100,35 @@ pub struct FourCounts {
     pub columns: usize,
 }
 
-// What a check finds: nothing to refuse, or a refusal's number and place.
-#[derive(Clone, Copy)]
-pub enum Verdict {
-    Accepted,
-    Refused { number: usize, place: usize },
+// A refusal's number by document 01, and its place.
+#[derive(Clone, Copy, PartialEq, Eq, Debug)]
+pub struct Refusal {
+    pub number: usize,
+    pub place: usize,
 }
+
+// What a check finds: nothing to refuse, or a refusal.
+pub type Verdict = Result<(), Refusal>;
 
 // What sizing and the assembly answer.
-#[derive(Clone, Copy)]
-pub enum Answer {
-    Refusal {
-        number: usize,
-        place: usize,
-    },
-    Counts {
-        entries: usize,
-        rows: usize,
-        cones: usize,
-        columns: usize,
-    },
-}
+pub type Answer = Result<FourCounts, Refusal>;
 
-// Who owns a row or a column, in the order of the index; or refusal 28 or 29.
-#[derive(Clone, Copy)]
-pub enum OwnerAnswer {
+// Who owns a row or a column, in the order of the index.
+#[derive(Clone, Copy, PartialEq, Eq, Debug)]
+pub enum Owner {
     StandardRows,
     RootStage,
     ObjectiveNumber(usize),
+}
+
+// Refusals 28 and 29.
+#[derive(Clone, Copy, PartialEq, Eq, Debug)]
+pub enum OwnerRefusal {
     IndexTooShort,
     NotCovered,
 }
+
+pub type OwnerAnswer = Result<Owner, OwnerRefusal>;
 
 // What a cone holds its slacks to: document 01's kinds 0, 1 and 2.
 #[derive(Clone, Copy)]
