@@ -7,9 +7,9 @@ use mathlib.Core.List.{List}
 use lib.ListN.{length, get_or}
 use Rattle.model.specs.Answers.{Told}
 use Rattle.model.specs.Owners.{index_places}
-use Rattle.model.specs.OwnerAnswers.{told_owner, owned_by, no_owner, within, owner_of}
-use Rattle.model.specs.declared.OwnerAnswer.{OwnerAnswer}
-use Rattle.model.specs.declared.OwnerAnswer.TheVariants.{ObjectiveNumber}
+use Rattle.std.specs.Prelude.{Ok}
+use Rattle.model.specs.OwnerAnswers.{OwnerAnswer, told_owner, owned_by, no_owner, within, owner_of}
+use Rattle.model.specs.declared.Owner.TheVariants.{ObjectiveNumber}
 use Rattle.model.proofs.Room.{Looked, none, found, look}
 use Rattle.model.proofs.OwnersTold.{too_short, lowest_counts, not_covered}
 
@@ -27,5 +27,5 @@ known f index objectives r i e = go (dec_lt (length index) (index_places objecti
         let z : j ≡ i = ap (λ (t : Told). get_or t.values 0 0) (sym (lowest_counts f index objectives r (omega arith) j (omega arith) t) ∙ e) in
         omega arith
 
-pub objective_known : (f : ℕ) (index : List ℕ) (objectives r : ℕ) {a : OwnerAnswer} → told_owner a ≡ owner_of f index objectives r → (i : ℕ) → a ≡ ObjectiveNumber i → 2 + i < length index
+pub objective_known : (f : ℕ) (index : List ℕ) (objectives r : ℕ) {a : OwnerAnswer} → told_owner a ≡ owner_of f index objectives r → (i : ℕ) → a ≡ Ok (ObjectiveNumber i) → 2 + i < length index
 objective_known f index objectives r e i h = known f index objectives r (2 + i) (sym e ∙ ap told_owner h)
