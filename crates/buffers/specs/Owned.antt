@@ -1,5 +1,5 @@
 -- Request 6: "The tally record gains the owner being written." What is stored of an owner in the index.
-use Rattle.std.specs.Prelude.{◌≡◌, ℕ, ◌+◌, ◌-◌, ◌*◌}
+use Rattle.std.specs.Prelude.{List, ◌≡◌, ℕ, ◌+◌, ◌-◌, ◌*◌}
 use Rattle.std.proofs.lemmas.List.Edits.{sets}
 use Rattle.model.specs.Counts.{four_counts}
 use Rattle.model.specs.Owners.{Owner, eight}
@@ -24,9 +24,13 @@ owner_between t u =
 abbrev pub reowned : ℕ → Tally → Tally
 reowned k t = record { entries = t.entries; rows = t.rows; cones = t.cones; columns = t.columns; owner = k }
 
--- its eight numbers at its places of the index, and then the next owner; the other buffers stay as they are
+-- its eight numbers at its places of the index, and then the next owner
+pub record StoresOwner (t u : Tally) (x : List ℕ) (t' : Tally) (x' : List ℕ) : Type 0 where
+  pub says : x' ≡ sets x (8 * t.owner) (eight (owner_between t u))
+  pub next : t' ≡ reowned (t.owner + 1) u
+
+-- the same of the buffers that were lent, of which the others stay as they are
 pub record PutsOwner (t u : Tally) (b : Buffers) (t' : Tally) (b' : Buffers) : Type 0 where
   pub same : SameBuffers b b'
-  pub says : b'.index.now ≡ sets b.index.now (8 * t.owner) (eight (owner_between t u))
-  pub state : state_of t' b' ≡ state_of t' b
-  pub next : t' ≡ reowned (t.owner + 1) u
+  pub stored : StoresOwner t u b.index.now t' b'.index.now
+  pub others : state_of t' b' ≡ state_of t' b

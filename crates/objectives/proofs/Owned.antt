@@ -23,11 +23,13 @@ use Rattle.model.proofs.Sums.{joined-append}
 use Rattle.model.proofs.Counted.{same_counts}
 use Rattle.model.proofs.Owned.{owners_length, objectives_blocks, eights_length}
 use Rattle.model.proofs.Slices.{sized}
-use Rattle.buffers.specs.Buffers.{State, emit, Built}
-use Rattle.buffers.specs.Owned.{counts_of, owner_between, reowned, PutsOwner}
-use Rattle.buffers.proofs.Laws.{sets-append}
+use Rattle.model.specs.Lent.{SameBuffers}
+use Rattle.model.specs.declared.Buffers.{Buffers}
+use Rattle.buffers.specs.Buffers.{State, state_of, emit, Built, Builds}
+use Rattle.buffers.specs.Owned.{counts_of, owner_between, reowned, StoresOwner, PutsOwner}
+use Rattle.buffers.proofs.Laws.{sets-append, same_refl, same_then}
 use Rattle.objectives.specs.Blocks.{pair, together}
-use Rattle.objectives.specs.Owned.{tallied, after, BuiltOwners}
+use Rattle.objectives.specs.Owned.{tallied, after, BuiltOwners, BuildsOwners}
 use Rattle.objectives.proofs.Blocks.{built_width, built_most, built_as, built_like, built_then, built_none, blocks_snoc}
 
 -- ---- a block
@@ -83,7 +85,7 @@ pub owners_none : {s : State} {x : List ℕ} {b : ℕ} → BuiltOwners s s x x [
 owners_none {s} = record { built = built_none (together []) refl refl; index = refl; counts = refl; owner = sym (add-zero s.tally.owner) }
 
 -- one block, and the store of its owner's numbers
-pub owners_one : {s u : State} {y : Block} {c : ℕ} {t : Tally} {x x' : List ℕ} → Built s u y c → PutsOwner s.tally u.tally x t x'
+pub owners_one : {s u : State} {y : Block} {c : ℕ} {t : Tally} {x x' : List ℕ} → Built s u y c → StoresOwner s.tally u.tally x t x'
     → BuiltOwners s (tallied t u) x x' (y ∷ []) c
 owners_one {s} {u} {y} {c} {t} {x} {x'} f p =
     subst (λ (k : Tally). BuiltOwners s (tallied k u) x x' (y ∷ []) c) (sym p.next)
@@ -134,7 +136,7 @@ module _ {s : State} {x : List ℕ} {p : Problem} {os : List Objective} {b : ℕ
 
   module _ {s' : State} {x' : List ℕ} {i : ℕ} (g : OwnedAll s s' x x' p os i b) where
     pub owned_more : {u : State} {t : Tally} {x'' : List ℕ} → Built s' u (objective_block p s'.tally.columns.at (get_or os i (Time nan))) b
-        → PutsOwner s'.tally u.tally x' t x'' → i < length os → OwnedAll s (tallied t u) x x'' p os (i + 1) b
+        → StoresOwner s'.tally u.tally x' t x'' → i < length os → OwnedAll s (tallied t u) x x'' p os (i + 1) b
     owned_more {u} h q l =
         let c = s.tally.columns.at in
         let bs = objective_blocks p c (take i os) in
@@ -150,3 +152,26 @@ module _ {s : State} {x : List ℕ} {p : Problem} {os : List Objective} {b : ℕ
     -- the owner being written
     pub owned_owner : s'.tally.owner ≤ s.tally.owner + i
     owned_owner = omega (arith, g.owners.owner, objectives_blocks p s.tally.columns.at (take i os), length-take i os)
+
+-- ---- the same of the buffers that were lent
+
+pub record OwnsAll (t : Tally) (b : Buffers) (t' : Tally) (b' : Buffers) (p : Problem) (os : List Objective) (i most : ℕ) : Type 0 where
+  pub same : SameBuffers b b'
+  pub owned : OwnedAll (state_of t b) (state_of t' b') b.index.now b'.index.now p os i most
+
+module _ {t : Tally} {b : Buffers} {p : Problem} {os : List Objective} {most : ℕ} where
+  pub owns_none : OwnsAll t b t b p os 0 most
+  owns_none = record { same = same_refl b; owned = owned_none }
+
+  module _ {t' : Tally} {b' : Buffers} {i : ℕ} (g : OwnsAll t b t' b' p os i most) where
+    pub owns_more : {u : Tally} {c : Buffers} {v : Tally} {d : Buffers} → Builds t' b' u c (objective_block p t'.columns.at (get_or os i (Time nan))) most
+        → PutsOwner t' u c v d → i < length os → OwnsAll t b v d p os (i + 1) most
+    owns_more {u} {v} {d} h q l =
+        record {
+          same = same_then g.same (same_then h.same q.same);
+          owned = subst (λ (s : State). OwnedAll (state_of t b) s b.index.now d.index.now p os (i + 1) most) (sym q.others)
+              (owned_more g.owned h.built (subst (λ (x : List ℕ). StoresOwner t' u x v d.index.now) h.index q.stored) l);
+        }
+
+    pub owns_end : {m c : ℕ} → i ≤ m → m ≤ i → most * m ≤ c → BuildsOwners t b t' b' (objective_blocks p t.columns.at (take m os)) c
+    owns_end h l z = record { same = g.same; owners = owned_end g.owned h l z }

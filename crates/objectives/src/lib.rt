@@ -2,137 +2,87 @@
 
 #![tactic(auto)]
 
-ghost use Rattle.std.specs.Prelude.{◌+◌, ◌^◌, ◌<◌, ◌≤◌, get_or, take};
+mod input;
+
+ghost use Rattle.std.specs.Prelude.{◌+◌, ◌^◌, ◌<◌, ◌≤◌, get_or, length};
 ghost use Rattle.std.specs.Float.{nan};
 ghost use Rattle.model.specs.Refusals.{most_objectives};
-ghost use Rattle.model.specs.Lent.{at_entry};
 ghost use Rattle.model.specs.Objectives.{objective_block};
 ghost use Rattle.model.specs.declared.Objective.TheVariants.{Time};
 ghost use Rattle.model.specs.Assembled.{objective_blocks};
 ghost use Rattle.buffers.specs.Bounds.{objective_room, objectives_room};
-ghost use Rattle.buffers.specs.Lent.{RoomAll, built};
-ghost use Rattle.buffers.specs.Inputs.{path, Sized, torque_of};
-ghost use Rattle.objectives.specs.Input.{lends, Ready, AllReady};
-ghost use Rattle.objectives.specs.Owned.{built_owners};
+ghost use Rattle.buffers.specs.Buffers.{Builds};
+ghost use Rattle.buffers.specs.Lent.{RoomAll};
+ghost use Rattle.objectives.specs.Input.{Ready, AllReady};
+ghost use Rattle.objectives.specs.Lends.{lends_of};
+ghost use Rattle.objectives.specs.Owned.{BuildsOwners};
 
 use buffers::put_owner;
-use model::{Ends, Objective, Tally};
-use stages::{thermal_energy_by_value, time_by_value, total_variation_torque_by_value};
+use model::{Buffers, Objective, Tally};
+use torque::ScaledTorque;
+
+pub use input::ObjectiveInput;
 
 // One objective. Linear has no rows: what it adds to the cost stands there from the start.
-fn objective(
-    t: Tally,
-    rows: &mut [u32],
-    columns: &mut [u32],
-    values: &mut [f64],
-    right: &mut [f64],
-    kinds: &mut [u8],
-    dimensions: &mut [u32],
-    cost: &mut [f64],
-    grid: &[f64],
-    ends: Ends,
-    thermal: &[f64],
-    torque_a: &[f64],
-    torque_b: &[f64],
-    torque_g: &[f64],
-    d: usize,
-    pool: &[f64],
-    o: Objective,
-) -> Tally
-    requires { RoomAll t objective_room × Sized grid.now ends × Ready (lends (path grid.now ends) thermal.now (torque_of d torque_a.now torque_b.now torque_g.now) pool.now) o }
-    ensures { built t rows columns values right kinds dimensions cost result (objective_block (lends (path (at_entry grid) ends) (at_entry thermal) (torque_of d (at_entry torque_a) (at_entry torque_b) (at_entry torque_g)) (at_entry pool)) t.columns.at o) objective_room }
+fn objective(t: Tally, out: &mut Buffers, input: &ObjectiveInput, o: Objective) -> Tally
+    requires { RoomAll t objective_room × Ready (lends_of input.now) o }
+    ensures { Builds t out.old result out.new (objective_block (lends_of input.now) t.columns.at o) objective_room }
 {
+    let mut u = t;
     match o {
-        Objective::Time(w) => time_by_value(
-            t, rows, columns, values, right, kinds, dimensions, cost, grid, ends, w,
-        ),
+        Objective::Time(weight) => stages::time(&mut u, out, input.path, weight),
         Objective::ThermalEnergy { weight, start, len } => {
-            let x = &pool[start..start + len];
-            thermal_energy_by_value(
-                t, rows, columns, values, right, kinds, dimensions, cost, grid, ends, thermal,
-                torque_a, torque_b, torque_g, x, d, weight,
-            )
+            let torque = ScaledTorque {
+                path: input.path,
+                tables: input.torque,
+                scales: &input.pool[start..start + len],
+                d: input.d,
+            };
+            stages::thermal_energy(&mut u, out, torque, input.thermal, weight)
         }
         Objective::TotalVariationTorque { weight, start, len } => {
-            let x = &pool[start..start + len];
-            total_variation_torque_by_value(
-                t, rows, columns, values, right, kinds, dimensions, cost, grid, ends, torque_a,
-                torque_b, torque_g, x, d, weight,
-            )
+            let torque = ScaledTorque {
+                path: input.path,
+                tables: input.torque,
+                scales: &input.pool[start..start + len],
+                d: input.d,
+            };
+            stages::total_variation_torque(&mut u, out, torque, weight)
         }
-        Objective::Linear {
-            weight: _,
-            alpha: _,
-            alpha_len: _,
-            beta: _,
-            beta_len: _,
-        } => t,
+        Objective::Linear { .. } => (),
     }
+    u
 }
 
 // Objective number i.
 fn objective_at(
     t: Tally,
-    rows: &mut [u32],
-    columns: &mut [u32],
-    values: &mut [f64],
-    right: &mut [f64],
-    kinds: &mut [u8],
-    dimensions: &mut [u32],
-    cost: &mut [f64],
-    grid: &[f64],
-    ends: Ends,
-    thermal: &[f64],
-    torque_a: &[f64],
-    torque_b: &[f64],
-    torque_g: &[f64],
-    d: usize,
-    pool: &[f64],
-    objectives: [Objective; 16],
+    out: &mut Buffers,
+    input: &ObjectiveInput,
+    objectives: &[Objective],
     i: usize,
 ) -> Tally
-    requires { RoomAll t objective_room × Sized grid.now ends × (i < 16) × Ready (lends (path grid.now ends) thermal.now (torque_of d torque_a.now torque_b.now torque_g.now) pool.now) (get_or objectives i (Time nan)) }
-    ensures { built t rows columns values right kinds dimensions cost result (objective_block (lends (path (at_entry grid) ends) (at_entry thermal) (torque_of d (at_entry torque_a) (at_entry torque_b) (at_entry torque_g)) (at_entry pool)) t.columns.at (get_or objectives i (Time nan))) objective_room }
+    requires { RoomAll t objective_room × (i < length objectives.now) × Ready (lends_of input.now) (get_or objectives.now i (Time nan)) }
+    ensures { Builds t out.old result out.new (objective_block (lends_of input.now) t.columns.at (get_or objectives.now i (Time nan))) objective_room }
 {
     let o = objectives[i];
-    objective(
-        t, rows, columns, values, right, kinds, dimensions, cost, grid, ends, thermal, torque_a,
-        torque_b, torque_g, d, pool, o,
-    )
+    objective(t, out, input, o)
 }
 
 // All that count, each an owner of its own in the index.
 pub fn clarabel_objective_copp3(
     t: Tally,
-    rows: &mut [u32],
-    columns: &mut [u32],
-    values: &mut [f64],
-    right: &mut [f64],
-    kinds: &mut [u8],
-    dimensions: &mut [u32],
-    cost: &mut [f64],
-    grid: &[f64],
-    ends: Ends,
-    thermal: &[f64],
-    torque_a: &[f64],
-    torque_b: &[f64],
-    torque_g: &[f64],
-    d: usize,
-    pool: &[f64],
-    objectives: [Objective; 16],
-    count: usize,
-    index: &mut [usize],
+    out: &mut Buffers,
+    input: &ObjectiveInput,
+    objectives: &[Objective],
 ) -> Tally
-    requires { RoomAll t objectives_room × (t.owner < 2 ^ 32) × Sized grid.now ends × (count ≤ most_objectives) × AllReady (lends (path grid.now ends) thermal.now (torque_of d torque_a.now torque_b.now torque_g.now) pool.now) objectives count }
-    ensures { built_owners t rows columns values right kinds dimensions cost index result (objective_blocks (lends (path (at_entry grid) ends) (at_entry thermal) (torque_of d (at_entry torque_a) (at_entry torque_b) (at_entry torque_g)) (at_entry pool)) t.columns.at (take count objectives)) objectives_room }
+    requires { RoomAll t objectives_room × (t.owner < 2 ^ 32) × (length objectives.now ≤ most_objectives) × AllReady (lends_of input.now) objectives.now (length objectives.now) }
+    ensures { BuildsOwners t out.old result out.new (objective_blocks (lends_of input.now) t.columns.at objectives.now) objectives_room }
 {
     let mut u = t;
-    for i in 0..count {
-        let w = objective_at(
-            u, rows, columns, values, right, kinds, dimensions, cost, grid, ends, thermal,
-            torque_a, torque_b, torque_g, d, pool, objectives, i,
-        );
-        u = put_owner(u, w, index);
+    for i in 0..objectives.len() {
+        let w = objective_at(u, out, input, objectives, i);
+        u = put_owner(u, w, out);
     }
     u
 }

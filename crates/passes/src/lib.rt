@@ -5,58 +5,56 @@
 ghost use Rattle.std.specs.Prelude.{◌≡◌};
 ghost use Rattle.model.specs.Refusals.{refusal};
 ghost use Rattle.model.specs.Answers.{every_finite};
-ghost use Rattle.model.specs.Lent.{lent, held};
-ghost use Rattle.model.specs.declared.Verdict.TheVariants.{Accepted};
+ghost use Rattle.model.specs.Lent.{problem_of};
+ghost use Rattle.model.specs.Verdicts.{accepted};
 ghost use Rattle.buffers.specs.Bounds.{program_room};
-ghost use Rattle.passes.specs.Program.{start_at, complete};
+ghost use Rattle.passes.specs.Program.{start_at, Completes};
 
 use blocks::{objective_blocks, standard_block};
-use buffers::put_owner;
+use buffers::{Path, put_owner};
 use finite_objectives::ab_costs;
 use finite_standard::standard_rows;
-use model::{Column, Job, Objective, Row, Tally};
+use linear::LinearInput;
+use model::{Buffers, Column, Problem, Row, Tally};
 use numbers::both;
+use objectives::ObjectiveInput;
+use standard::StandardInput;
 
 // Whether every number to be written is finite (20), told from grid and tables: a number that stands in several rows is not tested for each of them.
-pub fn every_number(
-    job: Job,
-    objectives: [Objective; 16],
-    grid: &[f64],
-    acc_rows: &[u32],
-    jerk_rows: &[u32],
-    amax: &[f64],
-    acc_a: &[f64],
-    acc_b: &[f64],
-    acc_max: &[f64],
-    jerk_a: &[f64],
-    jerk_b: &[f64],
-    jerk_c: &[f64],
-    jerk_max: &[f64],
-    thermal: &[f64],
-    torque_a: &[f64],
-    torque_b: &[f64],
-    torque_g: &[f64],
-    start_roots: &[f64],
-    end_roots: &[f64],
-    pool: &[f64],
-) -> bool
-    requires { refusal (held job objectives grid acc_rows jerk_rows amax acc_a acc_b acc_max jerk_a jerk_b jerk_c jerk_max thermal torque_a torque_b torque_g start_roots end_roots pool) ≡ Accepted }
-    ensures { result ≡ every_finite (lent job objectives grid acc_rows jerk_rows amax acc_a acc_b acc_max jerk_a jerk_b jerk_c jerk_max thermal torque_a torque_b torque_g start_roots end_roots pool) }
+pub fn every_number(problem: &Problem) -> bool
+    requires { refusal (problem_of problem.now) ≡ accepted }
+    ensures { result ≡ every_finite (problem_of problem.now) }
 {
-    let ends = job.ends;
-    let boundary = job.boundary;
-    let start = job.start;
-    let end = job.end;
-    let d = job.d;
-    let count = job.count;
-    let one = ab_costs(grid, ends, start_roots, end_roots, pool, objectives, count);
-    let two = standard_rows(
-        grid, ends, amax, acc_rows, acc_a, acc_b, acc_max, jerk_rows, jerk_a, jerk_b, jerk_c,
-        jerk_max, boundary, start, end,
-    );
-    let three = finite_objectives::objectives(
-        grid, ends, thermal, torque_a, torque_b, torque_g, d, pool, objectives, count,
-    );
+    let job = problem.job;
+    let path = Path {
+        grid: problem.grid,
+        ends: job.ends,
+    };
+    let objectives = &problem.objectives[..job.count];
+    let linear = LinearInput {
+        path,
+        roots: problem.roots,
+        pool: problem.pool,
+    };
+    let one = ab_costs(&linear, objectives);
+    let input = StandardInput {
+        path,
+        boundary: job.boundary,
+        start: job.start,
+        end: job.end,
+        amax: problem.amax,
+        acceleration: problem.acceleration,
+        jerk: problem.jerk,
+    };
+    let two = standard_rows(input);
+    let own = ObjectiveInput {
+        path,
+        thermal: problem.thermal,
+        torque: problem.torque,
+        d: job.d,
+        pool: problem.pool,
+    };
+    let three = finite_objectives::objectives(&own, objectives);
     both(one, both(two, three))
 }
 
@@ -68,82 +66,19 @@ fn before_rows(columns: Column) -> Tally
         entries: 0,
         rows: Row { at: 0 },
         cones: 0,
-        columns: columns,
+        columns,
         owner: 0,
     }
 }
 
 // Both halves, from nothing, and the index. A store past a buffer's end is left out.
-pub fn write(
-    job: Job,
-    objectives: [Objective; 16],
-    grid: &[f64],
-    acc_rows: &[u32],
-    jerk_rows: &[u32],
-    amax: &[f64],
-    acc_a: &[f64],
-    acc_b: &[f64],
-    acc_max: &[f64],
-    jerk_a: &[f64],
-    jerk_b: &[f64],
-    jerk_c: &[f64],
-    jerk_max: &[f64],
-    thermal: &[f64],
-    torque_a: &[f64],
-    torque_b: &[f64],
-    torque_g: &[f64],
-    start_roots: &[f64],
-    end_roots: &[f64],
-    pool: &[f64],
-    rows: &mut [u32],
-    columns: &mut [u32],
-    values: &mut [f64],
-    right: &mut [f64],
-    kinds: &mut [u8],
-    dimensions: &mut [u32],
-    cost: &mut [f64],
-    index: &mut [usize],
-) -> Tally
-    requires { refusal (held job objectives grid acc_rows jerk_rows amax acc_a acc_b acc_max jerk_a jerk_b jerk_c jerk_max thermal torque_a torque_b torque_g start_roots end_roots pool) ≡ Accepted }
-    ensures { complete (start_at 0) rows columns values right kinds dimensions cost index result (lent job objectives grid acc_rows jerk_rows amax acc_a acc_b acc_max jerk_a jerk_b jerk_c jerk_max thermal torque_a torque_b torque_g start_roots end_roots pool) program_room }
+pub fn write(problem: &Problem, out: &mut Buffers) -> Tally
+    requires { refusal (problem_of problem.now) ≡ accepted }
+    ensures { Completes (start_at 0) out.old result out.new (problem_of problem.now) program_room }
 {
-    let begin = Tally {
-        entries: 0,
-        rows: Row { at: 0 },
-        cones: 0,
-        columns: Column { at: 0 },
-        owner: 0,
-    };
-    let t = standard_block(
-        begin,
-        rows,
-        columns,
-        values,
-        right,
-        kinds,
-        dimensions,
-        cost,
-        job,
-        objectives,
-        grid,
-        acc_rows,
-        jerk_rows,
-        amax,
-        acc_a,
-        acc_b,
-        acc_max,
-        jerk_a,
-        jerk_b,
-        jerk_c,
-        jerk_max,
-        start_roots,
-        end_roots,
-        pool,
-    );
+    let begin = before_rows(Column { at: 0 });
+    let t = standard_block(begin, out, problem);
     // the column tally of the index starts behind the a and b columns
-    let t = put_owner(before_rows(t.columns), t, index);
-    objective_blocks(
-        t, rows, columns, values, right, kinds, dimensions, cost, job, objectives, grid, thermal,
-        torque_a, torque_b, torque_g, pool, index,
-    )
+    let t = put_owner(before_rows(t.columns), t, out);
+    objective_blocks(t, out, problem)
 }
