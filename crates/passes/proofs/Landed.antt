@@ -17,9 +17,10 @@ use Rattle.model.specs.Refusals.{refusal}
 use Rattle.model.specs.Answers.{Buffers, buffers, told, answered, outcome, lengths, room_refusal, index_refusal, every_finite, finite_refusal, verdict_of, written, assembly}
 use Rattle.model.specs.Answers as answers
 use Rattle.model.specs.Owners.{index, index_places}
-use Rattle.model.specs.declared.Verdict.{Verdict}
-use Rattle.model.specs.declared.Verdict.TheVariants.{Accepted, Refused}
-use Rattle.model.specs.declared.Answer.TheVariants.{Refusal, Counts}
+use Rattle.std.specs.Prelude.{Ok}
+use Rattle.model.specs.Verdicts.{Verdict}
+use Rattle.model.specs.Verdicts as verdicts
+use Rattle.model.specs.Counts.{four_counts}
 use Rattle.model.specs.declared.FourCounts.{FourCounts}
 use Rattle.model.specs.declared.Tally.{Tally}
 use Rattle.model.proofs.Passes.{then_passes}
@@ -28,7 +29,8 @@ use Rattle.model.proofs.Room.{Enough, room_passes, HasIndex, index_passes}
 use Rattle.buffers.specs.Buffers.{State, state, tally_of, emit}
 use Rattle.buffers.specs.Owned.{reowned}
 use Rattle.objectives.proofs.Blocks.{built_most}
-use Rattle.passes.specs.Program.{start_at, finished, Complete}
+use Rattle.model.specs.declared.Buffers.{Buffers as LentBuffers}
+use Rattle.passes.specs.Program.{start_at, finished, Complete, Completes}
 
 sets-front {ℓ} : {A : Type ℓ} (l vs : List A) → length vs ≤ length l → sets l 0 vs ≡ vs ++ drop (length vs) l
 sets-front l vs h = sets-eq vs l 0 (rw zero-add h) ∙ ap (λ k. vs ++ drop k l) (zero-add (length vs))
@@ -37,8 +39,8 @@ module _ {s s' : State} {x x' : List ℕ} {p : Problem} {b : ℕ} (g : Complete 
   pub complete_most : {c : ℕ} → b ≤ c → Complete s s' x x' p c
   complete_most h = record { built = built_most g.built h; index = g.index; owner = g.owner }
 
-  pub complete_long : length x' ≡ length x
-  complete_long = ap length g.index ∙ length-sets x 0 (index p)
+pub completes_most : {t t' : Tally} {b b' : LentBuffers} {p : Problem} {n c : ℕ} → Completes t b t' b' p n → n ≤ c → Completes t b t' b' p c
+completes_most g h = record { same = g.same; complete = complete_most g.complete h }
 
 module _ (p : Problem) {R C : List ℕ} {W H : List Float} {K D : List ℕ} {Q : List Float} {R' C' : List ℕ} {W' H' : List Float} {K' D' : List ℕ} {Q' : List Float} {t : Tally} {x x' : List ℕ} {b : ℕ}
     (g : Complete (state R C W H K D Q (start_at 0)) (state R' C' W' H' K' D' Q' t) x x' p b) where
@@ -71,38 +73,38 @@ module _ (p : Problem) {R C : List ℕ} {W H : List Float} {K D : List ℕ} {Q :
 -- ---- the answers
 
 module _ (p : Problem) (have : List ℕ) (long : ℕ) {v : Verdict} (e : v ≡ refusal p) where
-  pub stopped : {r k : ℕ} → v ≡ Refused r k → v ≡ verdict_of p have long
+  pub stopped : {r k : ℕ} → v ≡ verdicts.refused r k → v ≡ verdict_of p have long
   unfolding ◌then◌
   stopped f = rw (sym e ∙ f) f
 
-  pub passed : {t : FourCounts} {count : ℕ} {ok : Bool} {u : Verdict} → v ≡ Accepted → t ≡ counts p → count ≡ length (objectives p) → ok ≡ every_finite p
+  pub passed : {t : FourCounts} {count : ℕ} {ok : Bool} {u : Verdict} → v ≡ verdicts.accepted → t ≡ counts p → count ≡ length (objectives p) → ok ≡ every_finite p
       → u ≡ (room_refusal t have then refuse 28 0 (ltb long (index_places count)) then refuse 20 0 (not ok)) → u ≡ verdict_of p have long
   unfolding ◌then◌ index_refusal finite_refusal
   passed f same few g h =
       rw (sym e ∙ f) (h ∙ (λ i. room_refusal (same i) have then refuse 28 0 (ltb long (index_places (few i))) then refuse 20 0 (not (g i))))
 
 module _ (p : Problem) (b : Buffers) {v : Verdict} (e : v ≡ verdict_of p (lengths b) (length b.index)) where
-  pub refused : {r k : ℕ} → v ≡ Refused r k → answered (Refusal r k) b ≡ assembly p b
+  pub refused : {r k : ℕ} → v ≡ verdicts.refused r k → answered (verdicts.refused r k) b ≡ assembly p b
   unfolding assembly answers.result outcome
   refused f = rw (sym e ∙ f)
 
   -- what an acceptance passed: 1 to 18; 19; 28; 20
-  passes : v ≡ Accepted → (refusal p ≡ Accepted) × (Enough (counts p) b × (HasIndex p b × (finite_refusal p ≡ Accepted)))
+  passes : v ≡ verdicts.accepted → (refusal p ≡ verdicts.accepted) × (Enough (counts p) b × (HasIndex p b × (finite_refusal p ≡ verdicts.accepted)))
   passes f = simp (then_passes, room_passes, index_passes) at (sym e ∙ f)
 
-  pub accepted : v ≡ Accepted → refusal p ≡ Accepted
+  pub accepted : v ≡ verdicts.accepted → refusal p ≡ verdicts.accepted
   accepted f = (passes f).0
 
-  pub done : {R C : List ℕ} {W H : List Float} {K D : List ℕ} {Q : List Float} {t : Tally} {x : List ℕ} {k : ℕ} → v ≡ Accepted → list_lengths p ≡ counts p
+  pub done : {R C : List ℕ} {W H : List Float} {K D : List ℕ} {Q : List Float} {t : Tally} {x : List ℕ} {k : ℕ} → v ≡ verdicts.accepted → list_lengths p ≡ counts p
       → Complete (state b.rows b.columns b.values b.right b.kinds b.dimensions b.cost (start_at 0)) (state R C W H K D Q t) b.index x p k
-      → answered (Counts t.entries t.rows.at t.cones t.columns.at) (buffers R C W H K D Q x) ≡ assembly p b
+      → answered (Ok (four_counts t.entries t.rows.at t.cones t.columns.at)) (buffers R C W H K D Q x) ≡ assembly p b
   unfolding assembly answers.result outcome list_lengths
   done {t} f same g =
       let h = landed p g same (passes f).1.0 (passes f).1.1.0 in
       let tally = landed_tally p g in
       rw (sym e ∙ f)
       (λ i. record {
-        told = (ap (λ (z : Tally). told (Counts z.entries z.rows.at z.cones z.columns.at)) tally
-            ∙ ap (λ (z : FourCounts). told (Counts z.entries z.rows z.cones z.columns)) same) i;
+        told = (ap (λ (z : Tally). told (Ok (four_counts z.entries z.rows.at z.cones z.columns.at))) tally
+            ∙ ap (λ (z : FourCounts). told (Ok (four_counts z.entries z.rows z.cones z.columns))) same) i;
         buffers = h i;
       })

@@ -20,15 +20,17 @@ use Rattle.model.specs.declared.Objective.{Objective}
 use Rattle.model.specs.declared.Tally.{Tally}
 use Rattle.model.proofs.Counted.{same_counts}
 use Rattle.model.proofs.Owned.{objectives_blocks}
-use Rattle.buffers.specs.Buffers.{State, Built}
-use Rattle.buffers.specs.Owned.{counts_of, owner_between, reowned, PutsOwner}
-use Rattle.buffers.proofs.Laws.{sets-append}
+use Rattle.buffers.specs.Buffers.{State, state_of, Built, Builds}
+use Rattle.model.specs.Lent.{SameBuffers}
+use Rattle.model.specs.declared.Buffers.{Buffers}
+use Rattle.buffers.specs.Owned.{counts_of, owner_between, reowned, StoresOwner, PutsOwner}
+use Rattle.buffers.proofs.Laws.{sets-append, same_then}
 use Rattle.objectives.specs.Input.{lends}
-use Rattle.objectives.specs.Owned.{tallied, BuiltOwners}
+use Rattle.objectives.specs.Owned.{tallied, BuiltOwners, BuildsOwners}
 use Rattle.objectives.proofs.Blocks.{built_then, built_width, built_like, same_cones, same_cost, same_all_cones, same_all_cost}
 use Rattle.objectives.proofs.Owned.{built_reowned, built_counts, owner_between_lem}
 use Rattle.blocks.specs.Blocks.{own_blocks}
-use Rattle.passes.specs.Program.{whole, start_at, Complete}
+use Rattle.passes.specs.Program.{whole, start_at, Complete, Completes}
 
 module _ (p : Problem) where
   -- the problem as the objectives' writer sees it
@@ -77,10 +79,10 @@ module _ (p : Problem) where
         owner_between_lem (start_at b.tally.columns.at) b.tally (size_of (standard p)) (standard_counts_lem ∙ ap (λ (k : FourCounts). k plus size_of (standard p)) (sym e))
         ∙ ap (λ (k : FourCounts). record { first = k; size = size_of (standard p) }) e
 
-    module _ {c : State} {j : ℕ} {w t : Tally} {x x' x'' : List ℕ} (begins : w ≡ start_at b.tally.columns.at) (stored : PutsOwner w b.tally x t x')
+    module _ {c : State} {j : ℕ} {w t : Tally} {x x' x'' : List ℕ} (begins : w ≡ start_at b.tally.columns.at) (stored : StoresOwner w b.tally x t x')
         (g : BuiltOwners (tallied t b) c x' x'' (own_blocks seen t.columns.at (objectives p)) j) where
-      h : PutsOwner (start_at b.tally.columns.at) b.tally x t x'
-      h = subst (λ (k : Tally). PutsOwner k b.tally x t x') begins stored
+      h : StoresOwner (start_at b.tally.columns.at) b.tally x t x'
+      h = subst (λ (k : Tally). StoresOwner k b.tally x t x') begins stored
 
       next : Tally
       next = reowned 1 b.tally
@@ -117,3 +119,14 @@ module _ (p : Problem) where
             index = whole_index;
             owner = whole_owner;
           }
+
+  -- the same of the buffers that were lent
+  pub whole_builds : {t u v w z : Tally} {b c d e : Buffers} {xs : List Float} {i j : ℕ} → t ≡ start_at 0 → Builds t b u c (record { cones = (standard p).cones; cost = xs; charges = [] }) i
+      → length xs ≡ 2 * (n p.path + 1) → z ≡ start_at u.columns.at → PutsOwner z u c v d → BuildsOwners v d w e (own_blocks seen v.columns.at (objectives p)) j
+      → cost p ≡ xs ++ joined (λ b. b.cost) (blocks p) → Completes t b w e p (i + j)
+  whole_builds {t} {u} {v} {w} {z} {b} {c} {d} {e} {j} y f long begins q g same =
+      record {
+        same = same_then f.same (same_then q.same g.same);
+        complete = whole_built y f.built long begins (subst (λ (x : List ℕ). StoresOwner z u x v d.index.now) f.index q.stored)
+            (subst (λ (s : State). BuiltOwners s (state_of w e) d.index.now e.index.now (own_blocks seen v.columns.at (objectives p)) j) q.others g.owners) same;
+      }

@@ -4,10 +4,11 @@ use Rattle.std.proofs.lemmas.List.Edits.{sets}
 use Rattle.model.specs.Problem.{Problem, objectives}
 use Rattle.model.specs.Program.{Block}
 use Rattle.model.specs.Assembled.{cones, entries, right_side, cost}
-use Rattle.model.specs.Lent.{LentMut, mut_at_entry, at_exit}
+use Rattle.model.specs.Lent.{SameBuffers}
+use Rattle.model.specs.declared.Buffers.{Buffers}
 use Rattle.model.specs.Owners.{index}
 use Rattle.model.specs.declared.Tally.{Tally}
-use Rattle.buffers.specs.Buffers.{State, state, tally_of, Built}
+use Rattle.buffers.specs.Buffers.{State, state_of, tally_of, Built}
 use Rattle.buffers.specs.Owned.{reowned}
 use Rattle.objectives.specs.Owned.{tallied}
 
@@ -30,7 +31,7 @@ pub record Complete (s s' : State) (x x' : List ℕ) (p : Problem) (b : ℕ) : T
   pub index : x' ≡ sets x 0 (index p)
   pub owner : s'.tally.owner ≡ length (objectives p) + 2
 
-abbrev pub complete : Tally → LentMut ℕ → LentMut ℕ → LentMut Float → LentMut Float → LentMut ℕ → LentMut ℕ → LentMut Float → LentMut ℕ → Tally → Problem → ℕ → Type 0
-complete t r c v h k d q x t' p b =
-    Complete (state (mut_at_entry r) (mut_at_entry c) (mut_at_entry v) (mut_at_entry h) (mut_at_entry k) (mut_at_entry d) (mut_at_entry q) t)
-    (state (at_exit r) (at_exit c) (at_exit v) (at_exit h) (at_exit k) (at_exit d) (at_exit q) t') (mut_at_entry x) (at_exit x) p b
+-- the same of the buffers that were lent
+pub record Completes (t : Tally) (b : Buffers) (t' : Tally) (b' : Buffers) (p : Problem) (most : ℕ) : Type 0 where
+  pub same : SameBuffers b b'
+  pub complete : Complete (state_of t b) (state_of t' b') b.index.now b'.index.now p most
