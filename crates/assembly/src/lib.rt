@@ -6,10 +6,10 @@ ghost use Rattle.std.specs.Prelude.{◌≡◌, not, ◌≤◌, ltb};
 ghost use Rattle.model.specs.Refusals.{most_objectives};
 ghost use Rattle.model.specs.Verdicts.{◌then◌, refuse};
 ghost use Rattle.model.specs.Owners.{index_places};
-ghost use Rattle.model.specs.Answers.{room_refusal, verdict_of, answered, assembly};
-ghost use Rattle.model.specs.Lent.{lent, buffers_before, buffers_after};
+ghost use Rattle.model.specs.Answers.{lengths, room_refusal, verdict_of, answered, assembly};
+ghost use Rattle.model.specs.Lent.{problem_of, buffers_of, SameBuffers};
 
-use model::{Answer, FourCounts, Job, Objective, Verdict};
+use model::{Answer, Buffers, FourCounts, Problem, Verdict};
 use passes::{every_number, write};
 
 // 19, then 28 for an index so long, then 20, of the four counts, the number of objectives and of whether every number is finite.
@@ -23,194 +23,48 @@ fn room_and_finite(
     requires { objectives ≤ most_objectives }
     ensures { result ≡ (room_refusal counts lengths then refuse 28 0 (ltb long (index_places objectives)) then refuse 20 0 (not finite)) }
 {
-    let index = checks::refuse_if(28, 0, long < 8 * (objectives + 2));
-    let number = checks::refuse_if(20, 0, !finite);
-    let last = checks::first_of(index, number);
-    checks::first_of(sizing::room(counts, lengths), last)
+    sizing::room(counts, lengths)?;
+    checks::refuse_if(28, 0, long < 8 * (objectives + 2))?;
+    checks::refuse_if(20, 0, !finite)
+}
+
+// The lengths of buffers 0 to 6.
+fn lengths_of(out: &Buffers) -> [usize; 7]
+    ensures { result ≡ lengths (buffers_of out.now) }
+{
+    [
+        out.rows.len(),
+        out.columns.len(),
+        out.values.len(),
+        out.right.len(),
+        out.kinds.len(),
+        out.dimensions.len(),
+        out.cost.len(),
+    ]
 }
 
 // Every refusal, of buffers with these lengths and an index so long.
-fn verdict(
-    job: Job,
-    objectives: [Objective; 16],
-    grid: &[f64],
-    acc_rows: &[u32],
-    jerk_rows: &[u32],
-    amax: &[f64],
-    acc_a: &[f64],
-    acc_b: &[f64],
-    acc_max: &[f64],
-    jerk_a: &[f64],
-    jerk_b: &[f64],
-    jerk_c: &[f64],
-    jerk_max: &[f64],
-    thermal: &[f64],
-    torque_a: &[f64],
-    torque_b: &[f64],
-    torque_g: &[f64],
-    start_roots: &[f64],
-    end_roots: &[f64],
-    pool: &[f64],
-    lengths: [usize; 7],
-    long: usize,
-) -> Verdict
-    ensures { result ≡ verdict_of (lent job objectives grid acc_rows jerk_rows amax acc_a acc_b acc_max jerk_a jerk_b jerk_c jerk_max thermal torque_a torque_b torque_g start_roots end_roots pool) lengths long }
+fn verdict(problem: &Problem, lengths: [usize; 7], long: usize) -> Verdict
+    ensures { result ≡ verdict_of (problem_of problem.now) lengths long }
 {
-    let v = checks::check(
-        job,
-        objectives,
-        grid,
-        acc_rows,
-        jerk_rows,
-        amax,
-        acc_a,
-        acc_b,
-        acc_max,
-        jerk_a,
-        jerk_b,
-        jerk_c,
-        jerk_max,
-        thermal,
-        torque_a,
-        torque_b,
-        torque_g,
-        start_roots,
-        end_roots,
-        pool,
-    );
-    let Verdict::Accepted = v else {
-        return v;
-    };
-    let counts = sizing::count(job, objectives, grid, acc_rows, jerk_rows, amax);
-    let finite = every_number(
-        job,
-        objectives,
-        grid,
-        acc_rows,
-        jerk_rows,
-        amax,
-        acc_a,
-        acc_b,
-        acc_max,
-        jerk_a,
-        jerk_b,
-        jerk_c,
-        jerk_max,
-        thermal,
-        torque_a,
-        torque_b,
-        torque_g,
-        start_roots,
-        end_roots,
-        pool,
-    );
-    room_and_finite(counts, job.count, finite, lengths, long)
+    checks::check(problem)?;
+    let counts = sizing::count(problem);
+    let finite = every_number(problem);
+    room_and_finite(counts, problem.job.count, finite, lengths, long)
 }
 
 // The whole: a refusal with every buffer as it was, or the four counts with the program and its index in the buffers.
-pub fn assemble(
-    job: Job,
-    objectives: [Objective; 16],
-    grid: &[f64],
-    acc_rows: &[u32],
-    jerk_rows: &[u32],
-    amax: &[f64],
-    acc_a: &[f64],
-    acc_b: &[f64],
-    acc_max: &[f64],
-    jerk_a: &[f64],
-    jerk_b: &[f64],
-    jerk_c: &[f64],
-    jerk_max: &[f64],
-    thermal: &[f64],
-    torque_a: &[f64],
-    torque_b: &[f64],
-    torque_g: &[f64],
-    start_roots: &[f64],
-    end_roots: &[f64],
-    pool: &[f64],
-    rows: &mut [u32],
-    columns: &mut [u32],
-    values: &mut [f64],
-    right: &mut [f64],
-    kinds: &mut [u8],
-    dimensions: &mut [u32],
-    cost: &mut [f64],
-    index: &mut [usize],
-) -> Answer
-    ensures { answered result (buffers_after rows columns values right kinds dimensions cost index) ≡ assembly (lent job objectives grid acc_rows jerk_rows amax acc_a acc_b acc_max jerk_a jerk_b jerk_c jerk_max thermal torque_a torque_b torque_g start_roots end_roots pool) (buffers_before rows columns values right kinds dimensions cost index) }
+pub fn assemble(problem: &Problem, out: &mut Buffers) -> Answer
+    ensures same { SameBuffers out.old out.new }
+    ensures answer { answered result (buffers_of out.new) ≡ assembly (problem_of problem.now) (buffers_of out.old) }
 {
-    let lengths = [
-        rows.len(),
-        columns.len(),
-        values.len(),
-        right.len(),
-        kinds.len(),
-        dimensions.len(),
-        cost.len(),
-    ];
-    let long = index.len();
-    let v = verdict(
-        job,
-        objectives,
-        grid,
-        acc_rows,
-        jerk_rows,
-        amax,
-        acc_a,
-        acc_b,
-        acc_max,
-        jerk_a,
-        jerk_b,
-        jerk_c,
-        jerk_max,
-        thermal,
-        torque_a,
-        torque_b,
-        torque_g,
-        start_roots,
-        end_roots,
-        pool,
-        lengths,
-        long,
-    );
-    if let Verdict::Refused { number, place } = v {
-        return Answer::Refusal { number, place };
-    }
-    let t = write(
-        job,
-        objectives,
-        grid,
-        acc_rows,
-        jerk_rows,
-        amax,
-        acc_a,
-        acc_b,
-        acc_max,
-        jerk_a,
-        jerk_b,
-        jerk_c,
-        jerk_max,
-        thermal,
-        torque_a,
-        torque_b,
-        torque_g,
-        start_roots,
-        end_roots,
-        pool,
-        rows,
-        columns,
-        values,
-        right,
-        kinds,
-        dimensions,
-        cost,
-        index,
-    );
-    Answer::Counts {
+    let lengths = lengths_of(out);
+    verdict(problem, lengths, out.index.len())?;
+    let t = write(problem, out);
+    Ok(FourCounts {
         entries: t.entries,
         rows: t.rows.at,
         cones: t.cones,
         columns: t.columns.at,
-    }
+    })
 }
