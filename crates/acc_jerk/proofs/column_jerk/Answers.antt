@@ -1,9 +1,11 @@
-use native.Mathlib.Omega.{arith}
-use Rattle.buffers.proofs.Laws.{stage, fills_more}
+use Rattle.std.proofs.Common.{rules, ◌+◌}
+use Rattle.model.specs.Numbers.{at}
+use Rattle.model.specs.Program.{cell}
+use Rattle.acc_jerk.specs.Tables.{jerk_value}
 use Rattle.acc_jerk.proofs.column_jerk.Goals as goal
 
-pub loop-i-init : goal.loop-i-init
-loop-i-init c = search stage
-
-pub loop-i-preserved : goal.loop-i-preserved
-loop-i-preserved c = (omega (arith, c.loop-i-test), fills_more c.loop-i.invariant.1 c.put-u.ensures c.jerk_value-v.ensures)
+pub returns : goal.returns
+returns c =
+    let a = c.args in
+    let rows = a.station.rows.tables in
+    rw (← c.count.ensures) (c.fill.ensures (λ i. cell a.col.at (jerk_value a.form (at rows.b.now (a.station.from + i)) (at rows.c.now (a.station.from + i)) a.r)) (λ i p lt e. search rules))

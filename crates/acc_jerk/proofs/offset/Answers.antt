@@ -1,9 +1,13 @@
-use native.Mathlib.Omega.{arith}
-use Rattle.acc_jerk.proofs.Sums.{before_next, before_within}
+use Rattle.std.proofs.Common.{rules, arith, take, ◌<◌}
+use Rattle.std.specs.Prelude.{sum}
+use Rattle.acc_jerk.proofs.Sums.{sum_total, before_below}
 use Rattle.acc_jerk.proofs.offset.Goals as goal
 
-pub overflow_add-sum : goal.overflow_add-sum
-overflow_add-sum c = omega (arith, c.requires, c.loop-i.invariant.1, c.wide-sum.ensures, before_within c.args.counts.now c.loop-i.i)
+pub sum-requires-clause-fits : goal.sum-requires-clause-fits
+sum-requires-clause-fits c =
+    let a = c.args in
+    let e : sum (take a.k a.counts.now) < 18446744073709551616 = omega (arith, c.requires, sum_total (take a.k a.counts.now), before_below a.counts.now a.k) in
+    search (rules, e)
 
-pub loop-i-preserved : goal.loop-i-preserved
-loop-i-preserved c = (omega (arith, c.loop-i-test), omega (arith, c.loop-i.invariant.1, c.wide-sum.ensures, before_next c.args.counts.now c.loop-i.i (omega (arith, c.requires, c.loop-i-test))))
+pub returns : goal.returns
+returns c = search (rules, sum_total)
