@@ -2,8 +2,7 @@
 
 #![tactic(auto)]
 
-ghost use Rattle.std.specs.Prelude.{◌≡◌, ◌≤◌, take};
-ghost use Rattle.model.specs.Refusals.{most_objectives};
+ghost use Rattle.std.specs.Prelude.{◌≡◌, Bool};
 ghost use Rattle.model.specs.Problem.{some, uses_root, is_thermal, is_torque, is_linear};
 
 use model::Objective;
@@ -12,112 +11,39 @@ use model::Objective;
 pub fn is_thermal(o: Objective) -> bool
     ensures { result ≡ is_thermal o }
 {
-    match o {
-        Objective::Time(_) => false,
-        Objective::ThermalEnergy {
-            weight: _,
-            start: _,
-            len: _,
-        } => true,
-        Objective::TotalVariationTorque {
-            weight: _,
-            start: _,
-            len: _,
-        } => false,
-        Objective::Linear {
-            weight: _,
-            alpha: _,
-            alpha_len: _,
-            beta: _,
-            beta_len: _,
-        } => false,
-    }
+    matches!(o, Objective::ThermalEnergy { .. })
 }
 
 pub fn is_torque(o: Objective) -> bool
     ensures { result ≡ is_torque o }
 {
-    match o {
-        Objective::Time(_) => false,
-        Objective::ThermalEnergy {
-            weight: _,
-            start: _,
-            len: _,
-        } => false,
-        Objective::TotalVariationTorque {
-            weight: _,
-            start: _,
-            len: _,
-        } => true,
-        Objective::Linear {
-            weight: _,
-            alpha: _,
-            alpha_len: _,
-            beta: _,
-            beta_len: _,
-        } => false,
-    }
+    matches!(o, Objective::TotalVariationTorque { .. })
 }
 
 pub fn is_linear(o: Objective) -> bool
     ensures { result ≡ is_linear o }
 {
-    match o {
-        Objective::Time(_) => false,
-        Objective::ThermalEnergy {
-            weight: _,
-            start: _,
-            len: _,
-        } => false,
-        Objective::TotalVariationTorque {
-            weight: _,
-            start: _,
-            len: _,
-        } => false,
-        Objective::Linear {
-            weight: _,
-            alpha: _,
-            alpha_len: _,
-            beta: _,
-            beta_len: _,
-        } => true,
-    }
+    matches!(o, Objective::Linear { .. })
 }
 
-// Whether an objective uses the root stage.
+// Whether an objective uses the root stage: each cone of a ThermalEnergy has a xi, as each of a Time has.
 pub fn uses_root(o: Objective) -> bool
     ensures { result ≡ uses_root o }
 {
-    match o {
-        Objective::Time(_) => true,
-        Objective::ThermalEnergy {
-            weight: _,
-            start: _,
-            len: _,
-        } => true, // each of its cones has a xi
-        Objective::TotalVariationTorque {
-            weight: _,
-            start: _,
-            len: _,
-        } => false,
-        Objective::Linear {
-            weight: _,
-            alpha: _,
-            alpha_len: _,
-            beta: _,
-            beta_len: _,
-        } => false,
-    }
+    matches!(o, Objective::Time(_) | Objective::ThermalEnergy { .. })
 }
 
-// Whether any of the first count objectives uses it: then there is a root stage.
-pub fn has_root(objectives: [Objective; 16], count: usize) -> bool
-    requires { count ≤ most_objectives }
-    ensures { result ≡ some uses_root (take count objectives) }
+// Whether any objective passes a test.
+pub fn any_is<F: Fn(Objective) -> bool>(objectives: &[Objective], is: F) -> bool
+    requires { F.IsAlwaysCallable is }
+    ensures { (test : Objective → Bool) → ((o : Objective) (b : Bool) → F.post is o b → b ≡ test o) → result ≡ some test objectives.now }
 {
-    let mut found = false;
-    for i in 0..count {
-        found = found | uses_root(objectives[i]);
-    }
-    found
+    objectives.iter().any(|o| is(*o))
+}
+
+// Whether any objective uses the root stage: then there is one.
+pub fn has_root(objectives: &[Objective]) -> bool
+    ensures { result ≡ some uses_root objectives.now }
+{
+    any_is(objectives, uses_root)
 }
