@@ -40,6 +40,7 @@ fn root_cone(t: Tally, out: &mut Buffers, path: Path, j: usize) -> Tally
 }
 
 // All root cones.
+#[tactic(auto, using(columns::proofs::Xi::xi_in), unfolding(model::specs::Problem::L))]
 fn root_cones(t: Tally, out: &mut Buffers, path: Path) -> Tally
     requires { RoomAll t (3 * length path.grid.now) }
     ensures { Closed t out.old result out.new (list (root_cone (path_of path.entry)) 0 (L (path_of path.entry))) (3 * length path.entry.grid.now) }

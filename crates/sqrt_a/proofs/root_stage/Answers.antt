@@ -18,7 +18,7 @@ returns c =
     let f = 2 * (length c.args.path.grid.now - 1 + 1) in
     let h = at_most_xi c.args.path.grid.now c.args.path.ends c.length_xi-count.ensures in
     let rows = wrote_as (wrote_most c.positive-u.ensures {c = length c.args.path.grid.now} (omega (arith, h)))
-        (ap (λ (z : ℕ). list positive_row z k) (c.column_xi-first.ensures ∙ add-zero f) ∙ list_from positive_row f k ∙ ap (λ (z : ℕ). list (λ j. positive_row (f + j)) 0 z) c.length_xi-count.ensures) in
+    (ap (λ (z : ℕ). list positive_row z k) (c.column_xi-first.ensures ∙ add-zero f) ∙ list_from positive_row f k ∙ ap (λ (z : ℕ). list (λ j. positive_row (f + j)) 0 z) c.length_xi-count.ensures) in
     let costs = c.fill_cost.ensures (λ i. +0) (λ i x lt e. search rules) in
     builds_cost
     (builds (closed_then (closes rows c.close_cone-v.ensures (omega arith) (omega arith)) c.root_cones-w.ensures) costs.costs costs.columns (omega arith) (omega (arith, h)))
