@@ -89,27 +89,18 @@ pub from_column : {y x : Float} {c i o : ℕ} (f : ℕ → Float) (k m : ℕ)
     → i ≡ o → Charged y x c (list (λ j. cell (i + j) (f j)) k m) → Charged y x c (list (λ j. cell (o + j) (f j)) k m)
 from_column {y} {x} {c} f k m e = subst (λ (i : ℕ). Charged y x c (list (λ j. cell (i + j) (f j)) k m)) e
 
--- The moving stations are a to l - 1 - b of l stations, and f columns stand in front of that of station 0.
-pub not_past : (f l a b c j : ℕ) → a + b + 1 < l → f + (l - 1 - b) < c → j < a + (l - 1 - a - b + 1) → f + j ≢ c
-not_past f l a b c j h g k q = absurd (omega arith)
+-- with an end's stations, and their number, otherwise written
+pub end_at : {y x : Float} {c i o e a z b : ℕ} (f : ℕ → ℕ → ℕ → Float)
+    → e ≡ a → z ≡ b → i ≡ o → Charged y x c (list (λ k. cell e (f e z k)) 1 i) → Charged y x c (list (λ k. cell a (f a b k)) 1 o)
+end_at f p q r h = rw (← p, ← q, ← r) h
 
-pub not_before : (f a c j : ℕ) → c < f + a → a ≤ j → f + j ≢ c
-not_before f a c j h g q = absurd (omega arith)
+-- Charges v of the moving stations, which are a to l - 1 - b of l stations; f columns stand in front of that of station 0.
+module _ (v : ℕ → Float) (f l a b : ℕ) {x : Float} {c : ℕ} where
+  pub list_before : c < f + a → Charged x x c (list (λ k. cell (f + k) (v k)) a (l - 1 - a - b + 1))
+  list_before h = past_by (λ k. cell (f + k) (v k)) a (l - 1 - a - b + 1) (λ j g e q. absurd (omega arith))
 
-pub is_moving : (f l a b c : ℕ) → a + b + 1 < l → f + a ≤ c → c ≤ f + (l - 1 - b) → c - f < a + (l - 1 - a - b + 1)
-is_moving f l a b c h i g = omega arith
+  pub list_behind : a + b + 1 < l → f + (l - 1 - b) < c → Charged x x c (list (λ k. cell (f + k) (v k)) a (l - 1 - a - b + 1))
+  list_behind g h = past_by (λ k. cell (f + k) (v k)) a (l - 1 - a - b + 1) (λ j d e q. absurd (omega arith))
 
-pub back : (f c j : ℕ) → f + j ≡ c → j ≡ c - f
-back f c j h = omega arith
-
-pub forth : (f a c : ℕ) → f + a ≤ c → f + (c - f) ≡ c
-forth f a c h = omega arith
-
-pub least : (f a c : ℕ) → f + a ≤ c → a ≤ c - f
-least f a c h = omega arith
-
-pub one_less : (k x : ℕ) → x ≡ max k 1 → x - 1 ≡ k - 1
-one_less k x h = omega arith
-
-pub in_list : (f l a b c k : ℕ) → a + b + 1 < l → k ≡ l → f + a ≤ c → c ≤ f + (l - 1 - b) → c - f < k
-in_list f l a b c k h g i j = omega arith
+  pub list_here : a + b + 1 < l → f + a ≤ c → c ≤ f + (l - 1 - b) → Charged (x ⊕ v (c - f)) x c (list (λ k. cell (f + k) (v k)) a (l - 1 - a - b + 1))
+  list_here g h k = on_it (λ k. cell (f + k) (v k)) (c - f) a (l - 1 - a - b + 1) (omega arith) (λ j q. omega arith) (omega arith) (omega arith)

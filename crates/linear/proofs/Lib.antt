@@ -1,5 +1,5 @@
 pub mod Charges
 pub mod Columns
-pub mod Gathering
+pub mod Objectives
 pub mod Cost
 pub mod Fitting

@@ -1,9 +1,8 @@
 -- What charges come to on one column: so each column's cost can be told, tested and written on its own.
-use Rattle.std.specs.Prelude.{◌≡◌, Bool, cond, List, [], ◌∷◌, ℕ, ◌+◌, ◌-◌, ◌≤◌, ◌<◌, max, eqb, Float, length, get_or}
-use Rattle.std.specs.Float.{nan}
-use Rattle.model.specs.Numbers.{at, ◌⊕◌, +0}
-use Rattle.model.specs.Problem.{Roots, is_linear}
-use Rattle.model.specs.Lists.{list, part, given, joined}
+use Rattle.std.specs.Prelude.{◌≡◌, cond, List, [], ◌∷◌, ℕ, ◌+◌, ◌-◌, ◌≤◌, max, eqb, Float, length}
+use Rattle.model.specs.Numbers.{◌⊕◌, +0}
+use Rattle.model.specs.Problem.{Roots}
+use Rattle.model.specs.Lists.{list, part, joined}
 use Rattle.model.specs.declared.Objective.{Objective}
 use Rattle.model.specs.declared.Objective.TheVariants.{Time, ThermalEnergy, TotalVariationTorque, Linear}
 use Rattle.model.specs.Program.{Cell, cell}
@@ -53,33 +52,3 @@ Fits s e r0 r1 pool (ThermalEnergy w start len) = Unit {0}
 Fits s e r0 r1 pool (TotalVariationTorque w start len) = Unit {0}
 Fits s e r0 r1 pool (Linear w a al b bl) =
     (length r0 ≡ max e.n0 1 - 1) × (length r1 ≡ max e.n1 1 - 1) × (al ≡ length s) × (bl ≡ length s) × (a + al ≤ length pool) × (b + bl ≤ length pool)
-
--- its lists have length l
-abbrev pub Long : ℕ → Objective → Type 0
-Long l (Time w) = Unit {0}
-Long l (ThermalEnergy w start len) = Unit {0}
-Long l (TotalVariationTorque w start len) = Unit {0}
-Long l (Linear w a al b bl) = (al ≡ l) × (bl ≡ l)
-
--- the objective if it is a Linear
-abbrev pub only : Objective → List Objective
-only o = given (is_linear o) (o ∷ [])
-
--- the Linear objectives as they are gathered: number j has weight ws j, and lists of length l from us j and vs j on
-abbrev pub gathered : ℕ → List Float → List ℕ → List ℕ → ℕ → Objective
-gathered l ws us vs j = Linear (at ws j) (get_or us j 0) l (get_or vs j 0) l
-
--- what is gathered of an objective whose lists have length l: whether it counts, its weight and the places of its lists
-pub record Gives (o : Objective) (counts : Bool) (w : Float) (u v : ℕ) : Type 0 where
-  pub says : (l : ℕ) → Long l o → only o ≡ given counts (Linear w u l v l ∷ [])
-
--- the lists of the first `count` objectives have length l
-abbrev pub AllLong : ℕ → List Objective → ℕ → Type 0
-AllLong l os count = (i : ℕ) → i < count → Long l (get_or os i (Time nan))
-
--- the first k places of the arrays hold the Linear objectives, whose lists have length l
-pub record Gathers (l : ℕ) (os : List Objective) (ws : List Float) (us vs : List ℕ) (k : ℕ) : Type 0 where
-  pub weights : length ws ≡ 16
-  pub alphas : length us ≡ 16
-  pub betas : length vs ≡ 16
-  pub says : joined only os ≡ list (gathered l ws us vs) 0 k

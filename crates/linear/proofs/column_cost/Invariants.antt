@@ -1,9 +1,9 @@
-use Prim.Native.Nat.{◌≤◌}
-use lib.ListN.{length}
+use Rattle.std.proofs.Common.{◌≤◌, take}
 use Rattle.model.specs.Numbers.{+0}
-use Rattle.model.specs.Lists.{list, joined}
-use Rattle.linear.specs.Charges.{Charged, charges_of, gathered}
+use Rattle.model.specs.Lists.{joined}
+use Rattle.linear.specs.Charges.{Charged}
+use Rattle.linear.specs.Parts.{charges_in}
 use Rattle.linear.proofs.column_cost.Given as goal
 
-abbrev pub invariant-loop-i : goal.invariant-loop-i
-invariant-loop-i l = (l.i ≤ l.count) × Charged l.x +0 l.c.at (joined (charges_of l.grid l.ends l.start_roots l.end_roots l.pool) (list (gathered (length l.grid) l.weights l.alphas l.betas) 0 l.i))
+abbrev pub invariant-loop-o : goal.invariant-loop-o
+invariant-loop-o l = (l.o-index ≤ l.o-index-end) × Charged l.x +0 l.c.at (joined (charges_in l.input) (take l.o-index l.objectives))

@@ -1,8 +1,8 @@
-use Prim.Native.Nat.{◌≤◌}
+use Rattle.std.proofs.Common.{◌≤◌}
 use Rattle.model.specs.Standard.{root_cone}
-use Rattle.buffers.specs.Inputs.{path}
 use Rattle.buffers.specs.Buffers.{ClosedList}
+use Rattle.buffers.specs.Paths.{path_of}
 use Rattle.sqrt_a.proofs.root_cones.Given as goal
 
 abbrev pub invariant-loop-i : goal.invariant-loop-i
-invariant-loop-i l = (l.i ≤ l.count) × ClosedList l.initial.u l.initial.rows l.initial.columns l.initial.values l.initial.right l.initial.kinds l.initial.dimensions l.u l.rows l.columns l.values l.right l.kinds l.dimensions (root_cone (path l.grid l.ends)) 0 l.i 3
+invariant-loop-i l = (l.i ≤ l.count) × ClosedList l.initial.u l.initial.out l.u l.out (root_cone (path_of l.path)) 0 l.i 3

@@ -7,4 +7,6 @@ use Rattle.sqrt_a.proofs.root_rows.Goals as goal
 
 pub returns : goal.returns
 unfolding root_cone skip
-returns c = rw (← c.larger.ensures) (wrote_then (wrote_then (band_at c.row1-u.ensures (at_column c.column_a-a.ensures refl)) (band_at c.row1-u-2.ensures (at_column c.column_a-a.ensures refl))) (band_at c.row1.ensures (at_column c.column_xi-xi.ensures refl)))
+returns c =
+    let a = at_column c.column_a-a.ensures refl in
+    rw (← c.max.ensures) (wrote_then (wrote_then (band_at c.row-u.ensures a) (band_at c.row-u-2.ensures a)) (band_at c.row.ensures (at_column c.column_xi-xi.ensures refl)))

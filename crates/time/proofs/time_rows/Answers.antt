@@ -6,4 +6,5 @@ use Rattle.time.proofs.time_rows.Goals as goal
 
 pub returns : goal.returns
 unfolding time_cone
-returns c = wrote_then (wrote_then (band_at c.row2-u.ensures (at_column c.column_xi-xi.ensures refl)) (band_at c.row2-u-2.ensures (at_column c.column_xi-xi.ensures refl))) c.row0.ensures
+returns c =
+    wrote_then (wrote_then (band_at c.row-u.ensures (at_column c.column_xi.ensures refl)) (band_at c.row-u-2.ensures (at_column c.column_xi.ensures refl))) c.row.ensures
