@@ -7,10 +7,10 @@ pub returns-then-count-eq0 : goal.returns-then-count-eq0
 returns-then-count-eq0 c = rw (le-ltb 0 c.args.count (omega (arith, c.if-count-eq0.true))) wrote_skip
 
 pub loop-i-init : goal.loop-i-init
-loop-i-init c = (omega arith, overs_none)
+loop-i-init c = overs_none
 
 pub loop-i-preserved : goal.loop-i-preserved
-loop-i-preserved c = (omega (arith, c.loop-i-test), overs_next c.loop-i.invariant.1 c.end_rows-u.ensures)
+loop-i-preserved c = overs_next c.loop-i.invariant c.end_rows-u.ensures
 
 pub returns : goal.returns
-returns c = rw (lt-ltb 0 c.args.count (omega (arith, c.if-count-eq0.false))) (overs_all c.loop-i.invariant.1 c.loop-i.invariant.0 c.loop-i-test.false (omega arith))
+returns c = rw (lt-ltb 0 c.args.count (omega (arith, c.if-count-eq0.false))) (overs_all c.loop-i.invariant (omega arith) (omega arith) (omega arith))

@@ -1,4 +1,4 @@
-use Rattle.std.proofs.Common.{◌+◌, ◌*◌, ◌≤◌}
+use Rattle.std.proofs.Common.{◌+◌, ◌*◌}
 use Rattle.model.specs.Lists.{over}
 use Rattle.buffers.specs.Bounds.{torque_step_room}
 use Rattle.buffers.specs.Buffers.{Overs}
