@@ -1,8 +1,10 @@
-use native.Mathlib.Omega.{arith}
-use Rattle.model.specs.Objectives.{thermal_cone}
-use Rattle.buffers.proofs.Laws.{closes}
+use Rattle.std.proofs.Common.{rules}
+use Rattle.std.specs.Float.Ieee.{neg}
+use Rattle.thermal_energy.specs.Cones.{gravity}
 use Rattle.thermal_energy.proofs.moving_cone.Goals as goal
 
+pub cone-requires-clause-told : goal.cone-requires-clause-told
+cone-requires-clause-told c = (λ i. neg (gravity c.args.torque c.args.k i), λ i y lt e. search rules)
+
 pub returns : goal.returns
-unfolding thermal_cone
-returns c = closes c.moving_rows-u.ensures c.put_cone.ensures (omega (arith, c.moving_rows-u.ensures.moves)) (omega arith)
+returns c = c.cone.ensures (λ i. neg (gravity c.args.torque c.args.k i)) (λ i y lt e. search rules)
