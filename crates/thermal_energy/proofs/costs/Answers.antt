@@ -1,6 +1,5 @@
 use Rattle.std.proofs.Common.{arith, rules, ◌+◌}
 use Rattle.model.specs.Numbers.{at, ◌⊗◌, +4}
-use Rattle.model.specs.Lists.{list}
 use Rattle.model.specs.Problem.{n, L, ends, skip}
 use Rattle.model.specs.Objectives.{thermal_block}
 use Rattle.buffers.specs.Paths.{path_of}
