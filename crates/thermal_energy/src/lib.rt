@@ -26,16 +26,10 @@ fn first_rows(t: Tally, out: &mut Buffers, own: Column, xi: Column) -> Tally
 {
     let signs = [-1.0, 1.0];
     let u = fill(t, out, t.rows, 2, |_| Term { col: own, v: -1.0 });
-    let v = fill(
-        u,
-        out,
-        t.rows,
-        2,
-        |i| Term {
-            col: xi,
-            v: signs[i],
-        },
-    );
+    let v = fill(u, out, t.rows, 2, |i| {
+        let v = signs[i];
+        Term { col: xi, v }
+    });
     fill_right(v, out, 2, |_| 0.0)
 }
 
@@ -46,27 +40,15 @@ fn joint_columns(t: Tally, out: &mut Buffers, torque: ScaledTorque, k: usize) ->
 {
     let d = torque.d;
     let col = column_a(k);
-    let u = fill(
-        t,
-        out,
-        t.rows,
-        d,
-        |i| Term {
-            col,
-            v: torque.a(k, i),
-        },
-    );
+    let u = fill(t, out, t.rows, d, |i| {
+        let v = torque.a(k, i);
+        Term { col, v }
+    });
     let col = column_b(torque.path.grid, k);
-    fill(
-        u,
-        out,
-        t.rows,
-        d,
-        |i| Term {
-            col,
-            v: torque.b(k, i),
-        },
-    )
+    fill(u, out, t.rows, d, |i| {
+        let v = torque.b(k, i);
+        Term { col, v }
+    })
 }
 
 // A cone: j is the number of the xi, k its station, and side_at tells the right sides of the joints.
@@ -108,30 +90,11 @@ fn end_part(
     if count == 0 {
         return t;
     }
-    cone(
-        t,
-        out,
-        torque,
-        own,
-        j,
-        k,
-        |i| -(torque.g(k, i) + torque.g(z, i)),
-    )
-}
-
-// The cone of the moving station k.
-fn moving_cone(
-    t: Tally,
-    out: &mut Buffers,
-    torque: ScaledTorque,
-    own: Column,
-    j: usize,
-    k: usize,
-) -> Tally
-    requires { RoomAll t thermal_cone_room × (own.at < 2 ^ 32) × (j < length torque.path.grid.now) × (k < length torque.path.grid.now) }
-    ensures { Closed t out.old result out.new (moving_cone torque.entry own.at j k ∷ []) thermal_cone_room }
-{
-    cone(t, out, torque, own, j, k, |i| -torque.g(k, i))
+    cone(t, out, torque, own, j, k, |i| {
+        let g = torque.g(k, i);
+        let h = torque.g(z, i);
+        -(g + h)
+    })
 }
 
 // The cones of the moving stations that have a xi.
@@ -146,7 +109,8 @@ fn moving_cones(t: Tally, out: &mut Buffers, torque: ScaledTorque, col: Column) 
     let mut u = t;
     for j in 0..length_xi(path) {
         let own = Column { at: col.at + p + j };
-        u = moving_cone(u, out, torque, own, j, first + j);
+        let k = first + j;
+        u = cone(u, out, torque, own, j, k, |i| -torque.g(k, i));
     }
     u
 }
@@ -162,17 +126,9 @@ fn cones(t: Tally, out: &mut Buffers, torque: ScaledTorque, col: Column) -> Tall
     let own = Column {
         at: col.at + n0.min(1),
     };
+    let n1 = path.ends.n1;
     let j = length_xi(path) - 1;
-    let v = end_part(
-        u,
-        out,
-        torque,
-        own,
-        path.ends.n1,
-        j,
-        path.stop(),
-        path.last(),
-    );
+    let v = end_part(u, out, torque, own, n1, j, path.stop(), path.last());
     moving_cones(v, out, torque, col)
 }
 
@@ -188,12 +144,8 @@ fn costs(t: Tally, out: &mut Buffers, path: Path, thermal: &[f64], weight: f64) 
     let v = fill_cost(u, out, path.ends.n1.min(1), |_| end);
     let four = 4.0 * weight;
     let first = path.ends.n0.max(1);
-    fill_cost(
-        v,
-        out,
-        length_xi(path),
-        |j| weighted(four, thermal, first + j),
-    )
+    let count = length_xi(path);
+    fill_cost(v, out, count, |j| weighted(four, thermal, first + j))
 }
 
 // The block: its cones, and the costs of its own columns.
