@@ -1,45 +1,48 @@
 -- ThermalEnergy's cones and costs, of what a writer has.
-use Rattle.std.specs.Prelude.{List, [], ◌∷◌, ℕ, ◌+◌, ◌*◌, Float, get_or}
+use Rattle.std.specs.Prelude.{List, [], ◌∷◌, ℕ, Float, get_or}
 use Rattle.std.specs.Float.Ieee.{neg}
 use Rattle.std.specs.Float.{nan}
-use Rattle.model.specs.Numbers.{at, ◌⊕◌, ◌⊗◌, +0, +1, −1}
+use Rattle.model.specs.Numbers.{◌⊕◌, +0, +1, −1}
 use Rattle.model.specs.Program.{Cell, cell, Band, band, Cone}
-use Rattle.model.specs.Problem.{Path, Torque, on_grid, col_a, col_b}
+use Rattle.model.specs.Problem.{Path, Torque, col_a, col_b}
 use Rattle.model.specs.Objectives.{torque_a, torque_b, torque_g, thermal_cone, thermal_block}
-use Rattle.model.specs.declared.Ends.{Ends}
-use Rattle.buffers.specs.Inputs.{path, torque_of}
+use Rattle.buffers.specs.Inputs.{torque_of}
+use Rattle.buffers.specs.Paths.{path_of}
+use Rattle.torque.specs.declared.scaled_torque.ScaledTorque.{ScaledTorque}
 
 -- the first band of a cone, on the own column and a xi
 abbrev pub first_band : ℕ → ℕ → Band
 first_band own xi = band 2 (λ i. +0) ((λ i. cell own −1) ∷ (λ i. cell xi (get_or (−1 ∷ +1 ∷ []) i nan)) ∷ [])
 
--- the columns of the second, on a and b of station k
-abbrev pub joint_columns : List Float → List Float → List Float → List Float → ℕ → ℕ → List (ℕ → Cell)
-joint_columns s a b scales d k =
-    let q = on_grid s in
-    let x = torque_of d a b [] in
-    (λ i. cell (col_a q k) (torque_a q x scales k i)) ∷ (λ i. cell (col_b q k) (torque_b q x scales k i)) ∷ []
+module _ (x : ScaledTorque) where
+  -- tables 11 to 13, with the number of joints
+  abbrev pub tables_of : Torque
+  tables_of = torque_of x.d x.tables.a.now x.tables.b.now x.tables.g.now
 
--- a number of a table of the joints, scaled
-abbrev pub scaled_at : List Float → List Float → ℕ → ℕ → ℕ → Float
-scaled_at table scales d k i = at table (k * d + i) ⊗ at scales i
+  -- the columns of the second, on a and b of station k
+  abbrev pub joint_columns : ℕ → List (ℕ → Cell)
+  joint_columns k =
+      let q = path_of x.path in
+      (λ i. cell (col_a q k) (torque_a q tables_of x.scales.now k i)) ∷ (λ i. cell (col_b q k) (torque_b q tables_of x.scales.now k i)) ∷ []
 
--- the cone of a positive end, with the moving station k and the resting station z, and of a moving station k
-abbrev pub end_cone : List Float → Ends → List Float → List Float → List Float → List Float → ℕ → ℕ → ℕ → ℕ → ℕ → Cone
-end_cone s e a b g scales d own j k z =
-    let q = path s e in
-    let x = torque_of d a b g in
-    thermal_cone q x scales own j k (λ i. neg (torque_g q x scales k i ⊕ torque_g q x scales z i))
+  -- a scaled number of table 13
+  abbrev pub gravity : ℕ → ℕ → Float
+  gravity = torque_g (path_of x.path) tables_of x.scales.now
 
-abbrev pub moving_cone : List Float → Ends → List Float → List Float → List Float → List Float → ℕ → ℕ → ℕ → ℕ → Cone
-moving_cone s e a b g scales d own j k =
-    let q = path s e in
-    let x = torque_of d a b g in
-    thermal_cone q x scales own j k (λ i. neg (torque_g q x scales k i))
+  -- the cone with the right sides g, of a positive end with the moving station k and the resting station z, and of a moving station k
+  abbrev pub cone_with : ℕ → ℕ → ℕ → (ℕ → Float) → Cone
+  cone_with = thermal_cone (path_of x.path) tables_of x.scales.now
 
--- the block's cones, and the costs of its columns
-abbrev pub thermal_cones : Path → Torque → List Float → ℕ → List Cone
-thermal_cones q x scales c = (thermal_block q x [] +0 scales c).cones
+  abbrev pub end_cone : ℕ → ℕ → ℕ → ℕ → Cone
+  end_cone own j k z = cone_with own j k (λ i. neg (gravity k i ⊕ gravity z i))
 
+  abbrev pub moving_cone : ℕ → ℕ → ℕ → Cone
+  moving_cone own j k = cone_with own j k (λ i. neg (gravity k i))
+
+  -- the block's cones
+  abbrev pub thermal_cones : ℕ → List Cone
+  thermal_cones c = (thermal_block (path_of x.path) tables_of [] +0 x.scales.now c).cones
+
+-- the costs of its columns
 abbrev pub thermal_costs : Path → List Float → Float → List Float
 thermal_costs q weights w = (thermal_block q (torque_of 0 [] [] []) weights w [] 0).cost

@@ -1,12 +1,16 @@
-use native.Mathlib.Omega.{arith}
+use Rattle.std.proofs.Common.{arith}
 use borrow.Author.Tests.{lt-ltb, le-ltb}
-use Rattle.model.specs.Problem.{stop}
-use Rattle.buffers.proofs.Laws.{wrote_skip}
+use Rattle.buffers.proofs.Laws.{overs_none, overs_next, overs_all, wrote_skip}
 use Rattle.tv_torque.proofs.end_part.Goals as goal
 
-pub returns-then-ends-eq0 : goal.returns-then-ends-eq0
-returns-then-ends-eq0 c = rw (le-ltb 0 c.args.ends.n1 (omega (arith, c.if-ends-eq0.true))) wrote_skip
+pub returns-then-count-eq0 : goal.returns-then-count-eq0
+returns-then-count-eq0 c = rw (le-ltb 0 c.args.count (omega (arith, c.if-count-eq0.true))) wrote_skip
+
+pub loop-i-init : goal.loop-i-init
+loop-i-init c = overs_none
+
+pub loop-i-preserved : goal.loop-i-preserved
+loop-i-preserved c = overs_next c.loop-i.invariant c.end_rows-u.ensures
 
 pub returns : goal.returns
-unfolding stop
-returns c = rw (lt-ltb 0 c.args.ends.n1 (omega (arith, c.if-ends-eq0.false)), ← c.flag.ensures) c.end_joints.ensures
+returns c = rw (lt-ltb 0 c.args.count (omega (arith, c.if-count-eq0.false))) (overs_all c.loop-i.invariant (omega arith) (omega arith) (omega arith))

@@ -1,9 +1,7 @@
-use mathlib.Core.Path.{refl}
 use Rattle.model.specs.Objectives.{end_torque_rows}
 use Rattle.buffers.proofs.Laws.{wrote_then}
-use Rattle.columns.proofs.Cells.{band_at, at_column}
 use Rattle.tv_torque.proofs.end_rows.Goals as goal
 
 pub returns : goal.returns
 unfolding end_torque_rows
-returns c = rw (← c.scaled-a.ensures, ← c.scaled-b.ensures, ← c.scaled-g.ensures, ← c.scaled-h.ensures) (wrote_then (band_at c.row3-u.ensures (at_column c.column_a-ca.ensures (at_column c.column_b-cb.ensures refl))) (band_at c.row3.ensures (at_column c.column_a-ca.ensures (at_column c.column_b-cb.ensures refl))))
+returns c = rw (← c.a-a.ensures, ← c.b-b.ensures, ← c.g-g.ensures, ← c.g-h.ensures) (wrote_then (rw (c.column_a-ca.ensures, c.column_b-cb.ensures) at c.row-u.ensures) (rw (c.column_a-ca.ensures, c.column_b-cb.ensures) at c.row.ensures))

@@ -1,9 +1,0 @@
-use native.Mathlib.Omega.{arith}
-use Rattle.buffers.proofs.Laws.{stage, fills_more}
-use Rattle.thermal_energy.proofs.column_scaled.Goals as goal
-
-pub loop-i-init : goal.loop-i-init
-loop-i-init c = search stage
-
-pub loop-i-preserved : goal.loop-i-preserved
-loop-i-preserved c = (omega (arith, c.loop-i-test), fills_more c.loop-i.invariant.1 c.put-u.ensures c.scaled.ensures)

@@ -1,8 +1,0 @@
-use native.Mathlib.Omega.{arith}
-use Rattle.model.specs.Objectives.{thermal_cone}
-use Rattle.buffers.proofs.Laws.{closes}
-use Rattle.thermal_energy.proofs.moving_cone.Goals as goal
-
-pub returns : goal.returns
-unfolding thermal_cone
-returns c = closes c.moving_rows-u.ensures c.put_cone.ensures (omega (arith, c.moving_rows-u.ensures.moves)) (omega arith)
