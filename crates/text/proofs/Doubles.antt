@@ -1,14 +1,11 @@
 -- What the tests of `nearest`, `fraction` and `number` tell.
-use Rattle.std.proofs.Common.{◌≡◌, ℕ, ◌/◌, ◌%◌, ◌^◌, Bool, true, false, cond, not, ◌&&◌, T, eqb, ltb, [], ◌++◌, pos, sym, refl, ap, ◌∙◌, subst, arith}
-use lib.Ieee.{Float, nan, inf, fin, binary64, is_nan, lt, eq, ne, to_unsigned, to_bits}
-use lib.Ieee.Compare.{differs_from_itself}
+use Rattle.std.proofs.Common.{◌≡◌, ℕ, ◌/◌, ◌%◌, ◌^◌, Bool, true, false, cond, ◌&&◌, T, eqb, ltb, [], ◌++◌, pos, Option, Some, None, sym, refl, ap, ◌∙◌, subst, arith}
+use lib.Ieee.{Float, nan, inf, fin, binary64, is_nan, lt, eq, to_unsigned, to_bits}
 use Rattle.text.specs.Number.{scaled, ten_thousandths, nearest, magnitude, fraction, sign, shown, number}
 use Rattle.text.specs.Text.{ascii}
 use Rattle.text.specs.Digits.{digits, decimal}
-use Rattle.text.specs.declared.double.Multiple.{Multiple}
-use Rattle.text.specs.declared.double.Multiple.TheVariants.{TenThousandths, None}
 
-pub nearest_tells : (x : Float) (k : ℕ) (p q r s : Bool) → k ≡ to_unsigned 64 (scaled x) → lt (fin true 1 (pos 0)) (scaled x) ≡ p → lt (scaled x) (fin false 1 (pos 64)) ≡ q → ltb k (2 ^ 51) ≡ r → eq (ten_thousandths k) x ≡ s → cond (p && (q && (r && s))) (TenThousandths k) None ≡ nearest x
+pub nearest_tells : (x : Float) (k : ℕ) (p q r s : Bool) → k ≡ to_unsigned 64 (scaled x) → lt (fin true 1 (pos 0)) (scaled x) ≡ p → lt (scaled x) (fin false 1 (pos 64)) ≡ q → ltb k (2 ^ 51) ≡ r → eq (ten_thousandths k) x ≡ s → cond (p && (q && (r && s))) (Some k) None ≡ nearest x
 unfolding nearest
 nearest_tells x k p q r s is low high small back = cc
 
@@ -16,42 +13,37 @@ pub fraction_tells : (f : ℕ) (p q r s : Bool) → eqb f 0 ≡ p → eqb (f % 1
 unfolding fraction
 fraction_tells f p q r s none thousand hundred ten = cc
 
--- a number that equals itself is no NaN, and one that does not is
-pub no_nan : (x : Float) → ne x x ≡ false → T (not (is_nan x))
-unfolding is_nan ne
-no_nan nan e = subst T e tt
-no_nan (inf s) e = tt
-no_nan (fin s k e') e = tt
-
-pub number_nan : (x : Float) → ne x x ≡ true → ascii "NaN" ≡ number x
-unfolding number
-number_nan x e = ap number (sym (differs_from_itself x (subst T (sym e) tt)))
-
-pub number_shown : (x : Float) {y : Float} {m : Multiple} → T (not (is_nan x)) → y ≡ magnitude x → m ≡ nearest y → shown m x ≡ number x
+pub number_nan : (x : Float) {b : Bool} → b ≡ is_nan x → b ≡ true → ascii "NaN" ≡ number x
 unfolding number is_nan
-number_shown nan h e is = absurd h
-number_shown (inf s) h e is = ap (λ (m : Multiple). shown m (inf s)) (is ∙ ap nearest e)
-number_shown (fin s k e') h e is = ap (λ (m : Multiple). shown m (fin s k e')) (is ∙ ap nearest e)
+number_nan nan e h = refl
+number_nan (inf s) e h = absurd (subst T (sym h ∙ e) tt)
+number_nan (fin s k e') e h = absurd (subst T (sym h ∙ e) tt)
 
-pub shown_decimals : (x : Float) (k : ℕ) {m : Multiple} → m ≡ TenThousandths k → sign x ++ decimal (k / 10000) ++ fraction (k % 10000) ≡ shown m x
+pub number_shown : (x : Float) {b : Bool} {y : Float} {m : Option ℕ} → b ≡ is_nan x → b ≡ false → y ≡ magnitude x → m ≡ nearest y → shown m x ≡ number x
+unfolding number is_nan
+number_shown nan e h size is = absurd (subst T (sym e ∙ h) tt)
+number_shown (inf s) e h size is = ap (λ (m : Option ℕ). shown m (inf s)) (is ∙ ap nearest size)
+number_shown (fin s k e') e h size is = ap (λ (m : Option ℕ). shown m (fin s k e')) (is ∙ ap nearest size)
+
+pub shown_decimals : (x : Float) (k : ℕ) {m : Option ℕ} → m ≡ Some k → sign x ++ decimal (k / 10000) ++ fraction (k % 10000) ≡ shown m x
 unfolding shown
-shown_decimals x k e = ap (λ (m : Multiple). shown m x) (sym e)
+shown_decimals x k e = ap (λ (m : Option ℕ). shown m x) (sym e)
 
-pub shown_hex : (x : Float) {m : Multiple} → m ≡ None → ascii "0x" ++ digits 16 16 (to_bits binary64 x) ≡ shown m x
+pub shown_hex : (x : Float) {m : Option ℕ} → m ≡ None → ascii "0x" ++ digits 16 16 (to_bits binary64 x) ≡ shown m x
 unfolding shown
-shown_hex x e = ap (λ (m : Multiple). shown m x) (sym e)
+shown_hex x e = ap (λ (m : Option ℕ). shown m x) (sym e)
 
-differ : {j : ℕ} → None ≡ TenThousandths j → ⊥
+differ : {j : ℕ} → None ≡ Some j → ⊥
 differ g = let z : ◌≡◌ {A = ℕ} 0 1 = cc in omega arith
 
 -- a double that prints as k ten-thousandths is the nearest to them: the text reads back as the double
-pub reads_back : (x : Float) (k : ℕ) → nearest x ≡ TenThousandths k → eq (ten_thousandths k) x ≡ true
+pub reads_back : (x : Float) (k : ℕ) → nearest x ≡ Some k → eq (ten_thousandths k) x ≡ true
 unfolding nearest
 reads_back x k e =
     let j = to_unsigned 64 (scaled x) in
     go (lt (fin true 1 (pos 0)) (scaled x)) (lt (scaled x) (fin false 1 (pos 64))) (ltb j (2 ^ 51)) (eq (ten_thousandths j) x) refl e
   where
-    go : (p q r s : Bool) → eq (ten_thousandths (to_unsigned 64 (scaled x))) x ≡ s → cond (p && (q && (r && s))) (TenThousandths (to_unsigned 64 (scaled x))) None ≡ TenThousandths k → eq (ten_thousandths k) x ≡ true
+    go : (p q r s : Bool) → eq (ten_thousandths (to_unsigned 64 (scaled x))) x ≡ s → cond (p && (q && (r && s))) (Some (to_unsigned 64 (scaled x))) None ≡ Some k → eq (ten_thousandths k) x ≡ true
     go true true true true f g = let h : to_unsigned 64 (scaled x) ≡ k = cc in ap (λ (j : ℕ). eq (ten_thousandths j) x) (sym h) ∙ f
     go true true true false f g = absurd (differ g)
     go true true false s f g = absurd (differ g)

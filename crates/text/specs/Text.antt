@@ -4,6 +4,7 @@ use Prim.Native.Char.{code}
 use Prim.Native.String.{String, [] as empty, ◌∷◌ as ◌then◌}
 use Rattle.std.specs.Borrow.{MutBor}
 use denote.Triple.Both.{Both}
+use Rattle.text.specs.declared.writer.Writer.{Writer}
 
 -- the bytes of a text of ASCII
 abbrev pub ascii : String → List ℕ
@@ -31,5 +32,11 @@ more (b ∷ bs) p = more bs (byte_more b p)
 pub record Says (text old : List ℕ) (at : ℕ) (new : List ℕ) (next : ℕ) : Type 0 where
   pub says : page new next ≡ more text (page old at)
 
-abbrev pub says : List ℕ → Both (MutBor (List ℕ)) (MutBor (List ℕ)) → ℕ → ℕ → Type 0
-says text out at next = Says text out.entry.now at out.exit.now next
+-- The same of a struct that holds the buffer and the place, and that it still holds that buffer.
+pub record Written (text : List ℕ) (old new : Writer) : Type 0 where
+  pub same : new.buffer.ghost_name ≡ old.buffer.ghost_name
+  pub says : Says text old.buffer.now old.at new.buffer.now new.at
+
+-- what a method says
+abbrev pub says : List ℕ → Both (MutBor Writer) (MutBor Writer) → Type 0
+says text writer = Written text writer.entry.now writer.exit.now
