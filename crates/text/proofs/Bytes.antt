@@ -4,7 +4,7 @@ use native.Mathlib.Decide.{dec_lt}
 use lib.Seq.{sets, sets-eq}
 use Rattle.text.specs.Text.{Page, page, byte_more, more, Says}
 
-more_append : (t u : List ℕ) (p : Page) → more (t ++ u) p ≡ more u (more t p)
+pub more_append : (t u : List ℕ) (p : Page) → more (t ++ u) p ≡ more u (more t p)
 unfolding more
 more_append [] u p = refl
 more_append (b ∷ t) u p = more_append t u (byte_more b p)

@@ -1,20 +1,39 @@
 -- One text after another, by methods of one writer.
-use Rattle.std.proofs.Common.{◌≡◌, ℕ, ◌+◌, ◌<◌, ◌≤◌, List, [], ◌∷◌, ◌++◌, length, get_or, take, sym, refl, ap, ◌∙◌, add-one, take-suc}
-use Rattle.text.specs.Text.{Written}
+use Rattle.std.proofs.Common.{◌≡◌, ℕ, suc, ◌+◌, ◌<◌, ◌≤◌, List, [], ◌∷◌, ◌++◌, length, get_or, take, set, sym, refl, ap, ◌∙◌, add-one, take-suc, le-ltb, lt-ltb}
+use Rattle.text.specs.Text.{Page, page, byte_more, more, Says, written}
 use Rattle.text.specs.declared.writer.Writer.{Writer}
-use Rattle.text.proofs.Bytes as bytes
+use Rattle.text.proofs.Bytes.{more_append}
 
--- a method after another writes its text after the other's
-pub after : {t u : List ℕ} {w x y : Writer} → Written t w x → Written u x y → Written (t ++ u) w y
-after a b = record { same = b.same ∙ a.same; says = bytes.after a.says b.says }
+-- a text after another is the two as one text
+pub written_append : (t u : List ℕ) (w : Writer) → written (t ++ u) w ≡ written u (written t w)
+unfolding written
+written_append t u w = ap (λ (p : Page). record { buffer = record { ref_ptr = w.buffer.ref_ptr; ghost_name = w.buffer.ghost_name; now = p.bytes }; at = p.at }) (more_append t u (page w.buffer.now w.at))
 
-pub nothing : (w : Writer) → Written [] w w
-nothing w = record { same = refl; says = bytes.nothing w.buffer.now w.at }
-
--- the same text under another name
-pub renamed : {t u : List ℕ} {w x : Writer} → t ≡ u → Written t w x → Written u w x
-renamed e a = record { same = a.same; says = bytes.renamed e a.says }
+pub written_nothing : (w : Writer) → written [] w ≡ w
+unfolding written more
+written_nothing w = refl
 
 -- one byte more of a text
-pub next_byte : (s : List ℕ) {w x y : Writer} (i d : ℕ) → i < length s → Written (take i s) w x → Written (get_or s i d ∷ []) x y → Written (take (i + 1) s) w y
-next_byte s i d h a b = renamed (sym (ap (λ (k : ℕ). take k s) (add-one i) ∙ take-suc s i d h)) (after a b)
+pub written_byte : (s : List ℕ) (i d : ℕ) (w : Writer) → i < length s → written (take (i + 1) s) w ≡ written (get_or s i d ∷ []) (written (take i s) w)
+written_byte s i d w h = ap (λ (t : List ℕ). written t w) (ap (λ (k : ℕ). take k s) (add-one i) ∙ take-suc s i d h) ∙ written_append _ _ w
+
+-- a method after another writes its text after the other's
+pub after : (t u : List ℕ) (w : Writer) {x y : Writer} → x ≡ written t w → y ≡ written u x → y ≡ written (t ++ u) w
+after t u w a b = b ∙ ap (written u) a ∙ sym (written_append t u w)
+
+pub nothing : (w : Writer) → w ≡ written [] w
+nothing w = sym (written_nothing w)
+
+-- the same text under another name
+pub renamed : (w : Writer) {t u : List ℕ} {x : Writer} → t ≡ u → x ≡ written t w → x ≡ written u w
+renamed w e a = a ∙ ap (λ (v : List ℕ). written v w) e
+
+-- what it says of the buffer's bytes and of the places
+pub says_of_bytes : (t : List ℕ) (w : Writer) {x : Writer} → x ≡ written t w → Says t w.buffer.now w.at x.buffer.now x.at
+unfolding written
+says_of_bytes t w a = record { says = ap (λ (x : Writer). page x.buffer.now x.at) a }
+
+-- of the buffer itself, when it was lent to a writer that was made for a while
+pub lent_back : (t : List ℕ) (w : Writer) {x : Writer} {l : List ℕ} → x ≡ written t w → (w.buffer.ghost_name ≡ x.buffer.ghost_name → l ≡ x.buffer.now) → Says t w.buffer.now w.at l x.at
+unfolding written
+lent_back t w {x} a same = record { says = ap (λ (l : List ℕ). page l x.at) (same (sym (ap (λ (x : Writer). x.buffer.ghost_name) a))) ∙ ap (λ (x : Writer). page x.buffer.now x.at) a }

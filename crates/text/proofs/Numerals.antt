@@ -1,6 +1,9 @@
 -- How the digits of a number follow from those of the number without its last one.
-use Rattle.std.proofs.Common.{◌≡◌, ℕ, zero, suc, ◌+◌, ◌-◌, ◌/◌, ◌%◌, ◌<◌, ◌≤◌, [], ◌∷◌, ◌++◌, sym, refl, ap, ◌∙◌, sub-one, le-ltb, lt-ltb}
+use Rattle.std.proofs.Common.{◌≡◌, ℕ, zero, suc, ◌+◌, ◌-◌, ◌/◌, ◌%◌, ◌<◌, ◌≤◌, List, [], ◌∷◌, ◌++◌, sym, refl, ap, ◌∙◌, sub-one, le-ltb, lt-ltb}
 use Rattle.text.specs.Digits.{digit, digits, places}
+use Rattle.text.specs.Text.{written}
+use Rattle.text.specs.declared.writer.Writer.{Writer}
+use Rattle.text.proofs.Laws.{written_append}
 
 pub places_none : (k n : ℕ) → k ≡ 0 → 1 ≡ places k n
 unfolding places
@@ -24,3 +27,6 @@ pub digits_more : (b k n : ℕ) → (k ≡ 0 → ⊥) → digits b (k - 1) (n / 
 unfolding digits
 digits_more b zero n some = absurd (some refl)
 digits_more b (suc k) n some = ap (λ (j : ℕ). digits b j (n / b) ++ (digit (n % b) ∷ [])) (sub-one (suc k))
+
+pub written_digits : (b k n : ℕ) (w : Writer) → (k ≡ 0 → ⊥) → written (digits b k n) w ≡ written (digit (n % b) ∷ []) (written (digits b (k - 1) (n / b)) w)
+written_digits b k n w some = ap (λ (t : List ℕ). written t w) (sym (digits_more b k n some)) ∙ written_append _ _ w

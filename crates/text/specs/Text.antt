@@ -32,11 +32,12 @@ more (b ∷ bs) p = more bs (byte_more b p)
 pub record Says (text old : List ℕ) (at : ℕ) (new : List ℕ) (next : ℕ) : Type 0 where
   pub says : page new next ≡ more text (page old at)
 
--- The same of a struct that holds the buffer and the place, and that it still holds that buffer.
-pub record Written (text : List ℕ) (old new : Writer) : Type 0 where
-  pub same : new.buffer.ghost_name ≡ old.buffer.ghost_name
-  pub says : Says text old.buffer.now old.at new.buffer.now new.at
+-- a writer after a text more: the same buffer, with the bytes and the place as `more` has them
+unfoldable pub written : List ℕ → Writer → Writer
+written text w =
+    let p = more text (page w.buffer.now w.at) in
+    record { buffer = record { ref_ptr = w.buffer.ref_ptr; ghost_name = w.buffer.ghost_name; now = p.bytes }; at = p.at }
 
 -- what a method says
 abbrev pub says : List ℕ → Both (MutBor Writer) (MutBor Writer) → Type 0
-says text writer = Written text writer.entry.now writer.exit.now
+says text writer = writer.exit.now ≡ written text writer.entry.now

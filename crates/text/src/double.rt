@@ -13,6 +13,7 @@ pub fn minus(x: f64) -> bool
 }
 
 // Not `f64::abs`: at −∞ it differs, since 1 / −∞ is −0, which is not below 0.
+#[tactic(auto, unfolding(crate::specs::Number::magnitude))]
 fn magnitude(x: f64) -> f64
     ensures { result ≡ magnitude x }
 {
@@ -20,6 +21,7 @@ fn magnitude(x: f64) -> f64
 }
 
 // How many ten-thousandths a double is nearest to.
+#[tactic(auto, unfolding(crate::specs::Number::nearest))]
 fn nearest(x: f64) -> Option<u64>
     ensures { result ≡ nearest x }
 {
@@ -52,6 +54,7 @@ impl Writer<'_> {
         }
     }
 
+    #[tactic(auto, using(crate::proofs::Laws::written_nothing))]
     fn sign(&mut self, x: f64)
         ensures { says (sign x) self }
     {

@@ -22,6 +22,7 @@ fn digit(d: u64) -> u8
     }
 }
 
+#[tactic(auto, unfolding(crate::specs::Digits::places))]
 fn places(k: usize, n: u64) -> usize
     requires { k < 20 }
     ensures { (result ≡ places k n) × (result ≤ k + 1) }
@@ -36,6 +37,7 @@ fn places(k: usize, n: u64) -> usize
 }
 
 impl Writer<'_> {
+    #[tactic(auto, unfolding(crate::specs::Text::written, crate::specs::Text::more, crate::specs::Text::byte_more))]
     pub fn put(&mut self, byte: u8)
         ensures { says (byte ∷ []) self }
     {
@@ -45,6 +47,7 @@ impl Writer<'_> {
         }
     }
 
+    #[tactic(auto, using(crate::proofs::Laws::written_nothing, crate::proofs::Laws::written_byte))]
     pub fn words(&mut self, text: &[u8])
         ensures { says text.now self }
     {
@@ -54,6 +57,7 @@ impl Writer<'_> {
     }
 
     // The last k digits of n.
+    #[tactic(auto, using(crate::proofs::Laws::written_nothing, crate::proofs::Numerals::digits_none, crate::proofs::Numerals::written_digits))]
     fn digits(&mut self, base: u64, k: usize, n: u64)
         requires { (0 < base) × (base ≤ 16) }
         ensures { says (digits base k n) self }

@@ -2,7 +2,7 @@ use Rattle.text.proofs.Doubles.{nearest_tells}
 use Rattle.std.proofs.Common.{true, false, T, sym, refl, ap, ◌∙◌, subst, le-ltb, lt-ltb}
 use lib.Ieee.{of_bits, neg, Float, eq, div, binary64}
 use Rattle.text.proofs.double.nearest.Goals as goal
-use Rattle.text.proofs.double.nearest.Goals.{else-k-lt2251799813685248-via-then-k-lt2251799813685248+else-nearest_u64_to_f64-x, else-k-lt2251799813685248-via-else-k-lt2251799813685248, else-scaled-via-then-scaled+else-scaled-2, else-scaled-via-else-scaled}
+use Rattle.text.proofs.double.nearest.Goals.{else-scaled-via-then-scaled+else-scaled-2, else-scaled-via-else-scaled}
 
 pub truncating_f64_to_u64-k-requires-clause-lower_bound : goal.truncating_f64_to_u64-k-requires-clause-lower_bound
 unfolding of_bits neg
@@ -15,13 +15,6 @@ truncating_f64_to_u64-k-requires-clause-upper_bound c = subst T (sym c.if-scaled
 pub returns-then-nearest_u64_to_f64-x : goal.returns-then-nearest_u64_to_f64-x
 unfolding of_bits neg
 returns-then-nearest_u64_to_f64-x c = nearest_tells _ _ true true true true c.truncating_f64_to_u64-k.ensures c.if-scaled.true c.if-scaled-2.true (lt-ltb _ _ c.if-k-lt2251799813685248.true) (ap (λ (q : Float). eq (div binary64 q (of_bits binary64 0x40c3880000000000)) c.args.x) (sym c.nearest_u64_to_f64.ensures) ∙ c.if-nearest_u64_to_f64-x.true)
-
-pub returns-else-k-lt2251799813685248 : goal.returns-else-k-lt2251799813685248
-unfolding of_bits neg
-returns-else-k-lt2251799813685248 c = elim c.else-k-lt2251799813685248.branch [
-  | else-k-lt2251799813685248-via-then-k-lt2251799813685248+else-nearest_u64_to_f64-x w ↦ nearest_tells _ _ true true true false c.truncating_f64_to_u64-k.ensures c.if-scaled.true c.if-scaled-2.true (lt-ltb _ _ w.if-k-lt2251799813685248.true) (ap (λ (q : Float). eq (div binary64 q (of_bits binary64 0x40c3880000000000)) c.args.x) (sym w.nearest_u64_to_f64.ensures) ∙ w.if-nearest_u64_to_f64-x.false)
-  | else-k-lt2251799813685248-via-else-k-lt2251799813685248 w ↦ nearest_tells _ _ true true false _ c.truncating_f64_to_u64-k.ensures c.if-scaled.true c.if-scaled-2.true (le-ltb _ _ w.if-k-lt2251799813685248.false) refl
-]
 
 pub returns-else-scaled : goal.returns-else-scaled
 unfolding of_bits neg
