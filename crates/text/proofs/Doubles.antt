@@ -9,29 +9,26 @@ pub nearest_tells : (x : Float) (k : ℕ) (p q r s : Bool) → k ≡ to_unsigned
 unfolding nearest
 nearest_tells x k p q r s is low high small back = cc
 
-pub fraction_tells : (f : ℕ) (p q r s : Bool) → eqb f 0 ≡ p → eqb (f % 1000) 0 ≡ q → eqb (f % 100) 0 ≡ r → eqb (f % 10) 0 ≡ s → cond p [] (ascii "." ++ cond q (digits 10 1 (f / 1000)) (cond r (digits 10 2 (f / 100)) (cond s (digits 10 3 (f / 10)) (digits 10 4 f)))) ≡ fraction f
-unfolding fraction
-fraction_tells f p q r s none thousand hundred ten = cc
-
-pub number_nan : (x : Float) {b : Bool} → b ≡ is_nan x → b ≡ true → ascii "NaN" ≡ number x
+pub number_nan : (x : Float) → is_nan x ≡ true → number x ≡ ascii "NaN"
 unfolding number is_nan
-number_nan nan e h = refl
-number_nan (inf s) e h = absurd (subst T (sym h ∙ e) tt)
-number_nan (fin s k e') e h = absurd (subst T (sym h ∙ e) tt)
+number_nan nan h = refl
+number_nan (inf s) h = absurd (subst T (sym h) tt)
+number_nan (fin s k e) h = absurd (subst T (sym h) tt)
 
-pub number_shown : (x : Float) {b : Bool} {y : Float} {m : Option ℕ} → b ≡ is_nan x → b ≡ false → y ≡ magnitude x → m ≡ nearest y → shown m x ≡ number x
+number_shown : (x : Float) → is_nan x ≡ false → number x ≡ shown (nearest (magnitude x)) x
 unfolding number is_nan
-number_shown nan e h size is = absurd (subst T (sym e ∙ h) tt)
-number_shown (inf s) e h size is = ap (λ (m : Option ℕ). shown m (inf s)) (is ∙ ap nearest size)
-number_shown (fin s k e') e h size is = ap (λ (m : Option ℕ). shown m (fin s k e')) (is ∙ ap nearest size)
+number_shown nan h = absurd (subst T h tt)
+number_shown (inf s) h = refl
+number_shown (fin s k e) h = refl
 
-pub shown_decimals : (x : Float) (k : ℕ) {m : Option ℕ} → m ≡ Some k → sign x ++ decimal (k / 10000) ++ fraction (k % 10000) ≡ shown m x
+-- as a test finds x's size y and what y is nearest to
+pub number_decimals : (x : Float) (k : ℕ) {y : Float} {m : Option ℕ} → is_nan x ≡ false → y ≡ magnitude x → m ≡ nearest y → m ≡ Some k → sign x ++ decimal (k / 10000) ++ fraction (k % 10000) ≡ number x
 unfolding shown
-shown_decimals x k e = ap (λ (m : Option ℕ). shown m x) (sym e)
+number_decimals x k h size is e = sym (number_shown x h ∙ ap (λ (m : Option ℕ). shown m x) (sym (is ∙ ap nearest size) ∙ e))
 
-pub shown_hex : (x : Float) {m : Option ℕ} → m ≡ None → ascii "0x" ++ digits 16 16 (to_bits binary64 x) ≡ shown m x
+pub number_hex : (x : Float) {y : Float} {m : Option ℕ} → is_nan x ≡ false → y ≡ magnitude x → m ≡ nearest y → m ≡ None → ascii "0x" ++ digits 16 16 (to_bits binary64 x) ≡ number x
 unfolding shown
-shown_hex x e = ap (λ (m : Option ℕ). shown m x) (sym e)
+number_hex x h size is e = sym (number_shown x h ∙ ap (λ (m : Option ℕ). shown m x) (sym (is ∙ ap nearest size) ∙ e))
 
 differ : {j : ℕ} → None ≡ Some j → ⊥
 differ g = let z : ◌≡◌ {A = ℕ} 0 1 = cc in omega arith

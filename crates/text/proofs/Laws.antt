@@ -13,6 +13,10 @@ pub written_nothing : (w : Writer) → written [] w ≡ w
 unfolding written more
 written_nothing w = refl
 
+-- a byte, and the text behind it
+pub written_first : (b : ℕ) (t : List ℕ) (w : Writer) → written (b ∷ t) w ≡ written t (written (b ∷ []) w)
+written_first b t w = written_append (b ∷ []) t w
+
 -- one byte more of a text
 pub written_byte : (s : List ℕ) (i d : ℕ) (w : Writer) → i < length s → written (take (i + 1) s) w ≡ written (get_or s i d ∷ []) (written (take i s) w)
 written_byte s i d w h = ap (λ (t : List ℕ). written t w) (ap (λ (k : ℕ). take k s) (add-one i) ∙ take-suc s i d h) ∙ written_append _ _ w

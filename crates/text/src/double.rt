@@ -36,6 +36,7 @@ fn nearest(x: f64) -> Option<u64>
 }
 
 impl Writer<'_> {
+    #[tactic(auto, using(crate::proofs::Laws::written_nothing, crate::proofs::Laws::written_first), unfolding(crate::specs::Number::fraction))]
     fn fraction(&mut self, f: u64)
         ensures { says (fraction f) self }
     {
@@ -63,6 +64,7 @@ impl Writer<'_> {
         }
     }
 
+    #[tactic(auto, using(crate::proofs::Doubles::number_nan))]
     pub fn number(&mut self, x: f64)
         ensures { says (number x) self }
     {
