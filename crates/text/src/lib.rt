@@ -22,18 +22,12 @@ fn digit(d: u64) -> u8
     }
 }
 
-#[tactic(auto, unfolding(crate::specs::Digits::places))]
-fn places(k: usize, n: u64) -> usize
-    requires { k < 20 }
-    ensures { (result ≡ places k n) × (result ≤ k + 1) }
+// How many decimal digits n has.
+#[tactic(auto, using(crate::proofs::Numerals::places_power))]
+fn places(n: u64) -> usize
+    ensures { result ≡ places 19 n }
 {
-    if k == 0 {
-        return 1;
-    }
-    if n < 10 {
-        return 1;
-    }
-    places(k - 1, n / 10) + 1
+    n.max(1).ilog10() as usize + 1
 }
 
 impl Writer<'_> {
@@ -72,6 +66,6 @@ impl Writer<'_> {
     pub fn decimal(&mut self, n: u64)
         ensures { says (decimal n) self }
     {
-        self.digits(10, places(19, n), n);
+        self.digits(10, places(n), n);
     }
 }
