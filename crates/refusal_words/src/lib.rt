@@ -94,8 +94,7 @@ fn person(number: usize) -> &'static [u8]
     }
 }
 
-// The whole line of a refusal. Its number and its place are usize, as C and the documents have them.
-#[tactic(auto, using(text::proofs::Laws::written_append), unfolding(crate::specs::Refusals::refused))]
+// The whole line of a refusal. Both numbers stay usize: a refusal is told by its number and place as C and the documents have them.
 pub fn refused(out: &mut Writer, number: usize, k: usize)
     ensures { says (refused number k) out }
 {

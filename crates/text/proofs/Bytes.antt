@@ -1,5 +1,5 @@
 -- One text after another, said of the bytes of a buffer and of the places.
-use Rattle.std.proofs.Common.{◌≡◌, ℕ, suc, ◌+◌, ◌<◌, ◌≤◌, Bool, true, false, cond, ltb, List, [], ◌∷◌, ◌++◌, length, get_or, take, drop, set, sym, refl, ap, ◌∙◌, subst, add-one, arith, length-set, take-suc, le-ltb, lt-ltb}
+use Rattle.std.proofs.Common.{◌≡◌, ℕ, suc, ◌+◌, ◌<◌, ◌≤◌, Bool, true, false, cond, ltb, List, [], ◌∷◌, ◌++◌, length, take, drop, set, sym, refl, ap, ◌∙◌, subst, arith, length-set, le-ltb, lt-ltb}
 use native.Mathlib.Decide.{dec_lt}
 use lib.Seq.{sets, sets-eq}
 use Rattle.text.specs.Text.{Page, page, byte_more, more, Says}
@@ -9,26 +9,13 @@ unfolding more
 more_append [] u p = refl
 more_append (b ∷ t) u p = more_append t u (byte_more b p)
 
--- a writer after another writes its text after the other's
+-- a text after another is the two as one text
 pub after : {t u l l' l'' : List ℕ} {a a' a'' : ℕ} → Says t l a l' a' → Says u l' a' l'' a'' → Says (t ++ u) l a l'' a''
 after {t} {u} x y = record { says = y.says ∙ ap (more u) x.says ∙ sym (more_append t u _) }
-
-pub nothing : (l : List ℕ) (a : ℕ) → Says [] l a l a
-unfolding more
-nothing l a = record { says = refl }
 
 -- the same text under another name
 pub renamed : {t u l l' : List ℕ} {a a' : ℕ} → t ≡ u → Says t l a l' a' → Says u l a l' a'
 renamed {t} {u} {l} {l'} {a} e x = record { says = x.says ∙ ap (λ (v : List ℕ). more v (page l a)) e }
-
--- a byte where there is room, and where there is none
-pub stored : (b : ℕ) (l : List ℕ) (a : ℕ) → a < length l → Says (b ∷ []) l a (set l a b) (a + 1)
-unfolding more byte_more
-stored b l a h = record { says = simp (lt-ltb _ _ h, add-one) }
-
-pub left_out : (b : ℕ) (l : List ℕ) (a : ℕ) → length l ≤ a → Says (b ∷ []) l a l a
-unfolding more byte_more
-left_out b l a h = record { says = simp (le-ltb _ _ h) }
 
 -- What a writer leaves: a buffer as long as before, the next place within it, and where there is room the text, with all else as it was.
 more_length : (t : List ℕ) (p : Page) → length (more t p).bytes ≡ length p.bytes

@@ -1,5 +1,5 @@
 -- What the tests of `nearest`, `fraction` and `number` tell.
-use Rattle.std.proofs.Common.{◌≡◌, ℕ, ◌/◌, ◌%◌, ◌^◌, Bool, true, false, cond, ◌&&◌, T, eqb, ltb, [], ◌++◌, pos, Option, Some, None, sym, refl, ap, ◌∙◌, subst, arith}
+use Rattle.std.proofs.Common.{◌≡◌, ℕ, ◌/◌, ◌%◌, ◌^◌, Bool, true, false, cond, ◌&&◌, T, ltb, ◌++◌, pos, Option, Some, None, sym, refl, ap, ◌∙◌, subst, arith}
 use lib.Ieee.{Float, nan, inf, fin, binary64, is_nan, lt, eq, to_unsigned, to_bits}
 use Rattle.text.specs.Number.{scaled, ten_thousandths, nearest, magnitude, fraction, sign, shown, number}
 use Rattle.text.specs.Text.{ascii}

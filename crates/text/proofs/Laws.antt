@@ -1,6 +1,6 @@
 -- One text after another, by methods of one writer.
-use Rattle.std.proofs.Common.{◌≡◌, ℕ, suc, ◌+◌, ◌<◌, ◌≤◌, List, [], ◌∷◌, ◌++◌, length, get_or, take, set, sym, refl, ap, ◌∙◌, add-one, take-suc, le-ltb, lt-ltb}
-use Rattle.text.specs.Text.{Page, page, byte_more, more, Says, written}
+use Rattle.std.proofs.Common.{◌≡◌, ℕ, ◌+◌, ◌<◌, List, [], ◌∷◌, ◌++◌, length, get_or, take, sym, refl, ap, ◌∙◌, subst, add-one, take-suc}
+use Rattle.text.specs.Text.{Page, page, more, Says, written}
 use Rattle.text.specs.declared.writer.Writer.{Writer}
 use Rattle.text.proofs.Bytes.{more_append}
 
@@ -32,12 +32,14 @@ nothing w = sym (written_nothing w)
 pub renamed : (w : Writer) {t u : List ℕ} {x : Writer} → t ≡ u → x ≡ written t w → x ≡ written u w
 renamed w e a = a ∙ ap (λ (v : List ℕ). written v w) e
 
--- what it says of the buffer's bytes and of the places
+-- what a method says of the buffer's bytes and of the places: the theorems of Bytes.antt follow
 pub says_of_bytes : (t : List ℕ) (w : Writer) {x : Writer} → x ≡ written t w → Says t w.buffer.now w.at x.buffer.now x.at
 unfolding written
 says_of_bytes t w a = record { says = ap (λ (x : Writer). page x.buffer.now x.at) a }
 
--- of the buffer itself, when it was lent to a writer that was made for a while
+-- the same of a buffer l that was lent to a writer while it was used, as a caller knows it: it holds what the writer's does if that is still the same buffer
 pub lent_back : (t : List ℕ) (w : Writer) {x : Writer} {l : List ℕ} → x ≡ written t w → (w.buffer.ghost_name ≡ x.buffer.ghost_name → l ≡ x.buffer.now) → Says t w.buffer.now w.at l x.at
 unfolding written
-lent_back t w {x} a same = record { says = ap (λ (l : List ℕ). page l x.at) (same (sym (ap (λ (x : Writer). x.buffer.ghost_name) a))) ∙ ap (λ (x : Writer). page x.buffer.now x.at) a }
+lent_back t w {x} a same =
+    let e = same (sym (ap (λ (x : Writer). x.buffer.ghost_name) a)) in
+    subst (λ (l : List ℕ). Says t w.buffer.now w.at l x.at) (sym e) (says_of_bytes t w a)

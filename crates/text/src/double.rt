@@ -5,7 +5,7 @@ ghost use Rattle.text.specs.Number.{minus, magnitude, nearest, fraction, sign, n
 
 use crate::Writer;
 
-// Whether x is below 0 or −0.
+// Whether x is below 0 or −0. Not `f64::is_sign_negative`: it asks of its caller that x is no NaN.
 pub fn minus(x: f64) -> bool
     ensures { result ≡ minus x }
 {

@@ -11,6 +11,7 @@ ghost use Rattle.text.specs.Digits.{digit, digits, places, decimal};
 pub use double::minus;
 pub use writer::Writer;
 
+// Not `char::from_digit`: what it answers is an Option of a char, and the byte had still to be taken out of both.
 fn digit(d: u64) -> u8
     requires { d < 16 }
     ensures { result ≡ digit d }
@@ -63,6 +64,7 @@ impl Writer<'_> {
         self.put(digit(n % base));
     }
 
+    // Not `write!`: it may answer an error, of which its law says nothing, and a writer here cannot fail.
     pub fn decimal(&mut self, n: u64)
         ensures { says (decimal n) self }
     {

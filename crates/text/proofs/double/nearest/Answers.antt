@@ -1,5 +1,5 @@
 use Rattle.text.proofs.Doubles.{nearest_tells}
-use Rattle.std.proofs.Common.{true, false, T, sym, refl, ap, ◌∙◌, subst, le-ltb, lt-ltb}
+use Rattle.std.proofs.Common.{true, false, T, sym, refl, ap, ◌∙◌, subst, lt-ltb}
 use lib.Ieee.{of_bits, neg, Float, eq, div, binary64}
 use Rattle.text.proofs.double.nearest.Goals as goal
 use Rattle.text.proofs.double.nearest.Goals.{else-scaled-via-then-scaled+else-scaled-2, else-scaled-via-else-scaled}
