@@ -1,57 +1,46 @@
 -- What the tests of `nearest`, `fraction` and `number` tell.
-use Rattle.std.proofs.Common.{◌≡◌, ℕ, ◌/◌, ◌%◌, ◌^◌, Bool, true, false, cond, not, ◌&&◌, T, eqb, ltb, [], ◌++◌, pos, sym, refl, ap, ◌∙◌, subst, arith}
-use lib.Ieee.{Float, nan, inf, fin, binary64, is_nan, lt, eq, ne, to_unsigned, to_bits}
-use lib.Ieee.Compare.{differs_from_itself}
+use Rattle.std.proofs.Common.{◌≡◌, ℕ, ◌/◌, ◌%◌, ◌^◌, Bool, true, false, cond, ◌&&◌, T, ltb, ◌++◌, pos, Option, Some, None, sym, refl, ap, ◌∙◌, subst, arith}
+use lib.Ieee.{Float, nan, inf, fin, binary64, is_nan, lt, eq, to_unsigned, to_bits}
 use Rattle.text.specs.Number.{scaled, ten_thousandths, nearest, magnitude, fraction, sign, shown, number}
 use Rattle.text.specs.Text.{ascii}
 use Rattle.text.specs.Digits.{digits, decimal}
-use Rattle.text.specs.declared.double.Multiple.{Multiple}
-use Rattle.text.specs.declared.double.Multiple.TheVariants.{TenThousandths, None}
 
-pub nearest_tells : (x : Float) (k : ℕ) (p q r s : Bool) → k ≡ to_unsigned 64 (scaled x) → lt (fin true 1 (pos 0)) (scaled x) ≡ p → lt (scaled x) (fin false 1 (pos 64)) ≡ q → ltb k (2 ^ 51) ≡ r → eq (ten_thousandths k) x ≡ s → cond (p && (q && (r && s))) (TenThousandths k) None ≡ nearest x
+pub nearest_tells : (x : Float) (k : ℕ) (p q r s : Bool) → k ≡ to_unsigned 64 (scaled x) → lt (fin true 1 (pos 0)) (scaled x) ≡ p → lt (scaled x) (fin false 1 (pos 64)) ≡ q → ltb k (2 ^ 51) ≡ r → eq (ten_thousandths k) x ≡ s → cond (p && (q && (r && s))) (Some k) None ≡ nearest x
 unfolding nearest
 nearest_tells x k p q r s is low high small back = cc
 
-pub fraction_tells : (f : ℕ) (p q r s : Bool) → eqb f 0 ≡ p → eqb (f % 1000) 0 ≡ q → eqb (f % 100) 0 ≡ r → eqb (f % 10) 0 ≡ s → cond p [] (ascii "." ++ cond q (digits 10 1 (f / 1000)) (cond r (digits 10 2 (f / 100)) (cond s (digits 10 3 (f / 10)) (digits 10 4 f)))) ≡ fraction f
-unfolding fraction
-fraction_tells f p q r s none thousand hundred ten = cc
-
--- a number that equals itself is no NaN, and one that does not is
-pub no_nan : (x : Float) → ne x x ≡ false → T (not (is_nan x))
-unfolding is_nan ne
-no_nan nan e = subst T e tt
-no_nan (inf s) e = tt
-no_nan (fin s k e') e = tt
-
-pub number_nan : (x : Float) → ne x x ≡ true → ascii "NaN" ≡ number x
-unfolding number
-number_nan x e = ap number (sym (differs_from_itself x (subst T (sym e) tt)))
-
-pub number_shown : (x : Float) {y : Float} {m : Multiple} → T (not (is_nan x)) → y ≡ magnitude x → m ≡ nearest y → shown m x ≡ number x
+pub number_nan : (x : Float) → is_nan x ≡ true → number x ≡ ascii "NaN"
 unfolding number is_nan
-number_shown nan h e is = absurd h
-number_shown (inf s) h e is = ap (λ (m : Multiple). shown m (inf s)) (is ∙ ap nearest e)
-number_shown (fin s k e') h e is = ap (λ (m : Multiple). shown m (fin s k e')) (is ∙ ap nearest e)
+number_nan nan h = refl
+number_nan (inf s) h = absurd (subst T (sym h) tt)
+number_nan (fin s k e) h = absurd (subst T (sym h) tt)
 
-pub shown_decimals : (x : Float) (k : ℕ) {m : Multiple} → m ≡ TenThousandths k → sign x ++ decimal (k / 10000) ++ fraction (k % 10000) ≡ shown m x
+number_shown : (x : Float) → is_nan x ≡ false → number x ≡ shown (nearest (magnitude x)) x
+unfolding number is_nan
+number_shown nan h = absurd (subst T h tt)
+number_shown (inf s) h = refl
+number_shown (fin s k e) h = refl
+
+-- as a test finds x's size y and what y is nearest to
+pub number_decimals : (x : Float) (k : ℕ) {y : Float} {m : Option ℕ} → is_nan x ≡ false → y ≡ magnitude x → m ≡ nearest y → m ≡ Some k → sign x ++ decimal (k / 10000) ++ fraction (k % 10000) ≡ number x
 unfolding shown
-shown_decimals x k e = ap (λ (m : Multiple). shown m x) (sym e)
+number_decimals x k h size is e = sym (number_shown x h ∙ ap (λ (m : Option ℕ). shown m x) (sym (is ∙ ap nearest size) ∙ e))
 
-pub shown_hex : (x : Float) {m : Multiple} → m ≡ None → ascii "0x" ++ digits 16 16 (to_bits binary64 x) ≡ shown m x
+pub number_hex : (x : Float) {y : Float} {m : Option ℕ} → is_nan x ≡ false → y ≡ magnitude x → m ≡ nearest y → m ≡ None → ascii "0x" ++ digits 16 16 (to_bits binary64 x) ≡ number x
 unfolding shown
-shown_hex x e = ap (λ (m : Multiple). shown m x) (sym e)
+number_hex x h size is e = sym (number_shown x h ∙ ap (λ (m : Option ℕ). shown m x) (sym (is ∙ ap nearest size) ∙ e))
 
-differ : {j : ℕ} → None ≡ TenThousandths j → ⊥
+differ : {j : ℕ} → None ≡ Some j → ⊥
 differ g = let z : ◌≡◌ {A = ℕ} 0 1 = cc in omega arith
 
 -- a double that prints as k ten-thousandths is the nearest to them: the text reads back as the double
-pub reads_back : (x : Float) (k : ℕ) → nearest x ≡ TenThousandths k → eq (ten_thousandths k) x ≡ true
+pub reads_back : (x : Float) (k : ℕ) → nearest x ≡ Some k → eq (ten_thousandths k) x ≡ true
 unfolding nearest
 reads_back x k e =
     let j = to_unsigned 64 (scaled x) in
     go (lt (fin true 1 (pos 0)) (scaled x)) (lt (scaled x) (fin false 1 (pos 64))) (ltb j (2 ^ 51)) (eq (ten_thousandths j) x) refl e
   where
-    go : (p q r s : Bool) → eq (ten_thousandths (to_unsigned 64 (scaled x))) x ≡ s → cond (p && (q && (r && s))) (TenThousandths (to_unsigned 64 (scaled x))) None ≡ TenThousandths k → eq (ten_thousandths k) x ≡ true
+    go : (p q r s : Bool) → eq (ten_thousandths (to_unsigned 64 (scaled x))) x ≡ s → cond (p && (q && (r && s))) (Some (to_unsigned 64 (scaled x))) None ≡ Some k → eq (ten_thousandths k) x ≡ true
     go true true true true f g = let h : to_unsigned 64 (scaled x) ≡ k = cc in ap (λ (j : ℕ). eq (ten_thousandths j) x) (sym h) ∙ f
     go true true true false f g = absurd (differ g)
     go true true false s f g = absurd (differ g)

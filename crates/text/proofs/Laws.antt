@@ -1,78 +1,45 @@
--- One text after another.
-use Rattle.std.proofs.Common.{◌≡◌, ℕ, suc, ◌+◌, ◌<◌, ◌≤◌, Bool, true, false, cond, ltb, List, [], ◌∷◌, ◌++◌, length, get_or, take, drop, set, sym, refl, ap, ◌∙◌, subst, add-one, arith, length-set, take-suc, le-ltb, lt-ltb}
-use native.Mathlib.Decide.{dec_lt}
-use lib.Seq.{sets, sets-eq}
-use Rattle.text.specs.Text.{Page, page, byte_more, more, Says}
+-- One text after another, by methods of one writer.
+use Rattle.std.proofs.Common.{◌≡◌, ℕ, ◌+◌, ◌<◌, List, [], ◌∷◌, ◌++◌, length, get_or, take, sym, refl, ap, ◌∙◌, subst, add-one, take-suc}
+use Rattle.text.specs.Text.{Page, page, more, Says, written}
+use Rattle.text.specs.declared.writer.Writer.{Writer}
+use Rattle.text.proofs.Bytes.{more_append}
 
-more_append : (t u : List ℕ) (p : Page) → more (t ++ u) p ≡ more u (more t p)
-unfolding more
-more_append [] u p = refl
-more_append (b ∷ t) u p = more_append t u (byte_more b p)
+-- a text after another is the two as one text
+pub written_append : (t u : List ℕ) (w : Writer) → written (t ++ u) w ≡ written u (written t w)
+unfolding written
+written_append t u w = ap (λ (p : Page). record { buffer = record { ref_ptr = w.buffer.ref_ptr; ghost_name = w.buffer.ghost_name; now = p.bytes }; at = p.at }) (more_append t u (page w.buffer.now w.at))
 
--- a writer after another writes its text after the other's
-pub after : {t u l l' l'' : List ℕ} {a a' a'' : ℕ} → Says t l a l' a' → Says u l' a' l'' a'' → Says (t ++ u) l a l'' a''
-after {t} {u} x y = record { says = y.says ∙ ap (more u) x.says ∙ sym (more_append t u _) }
+pub written_nothing : (w : Writer) → written [] w ≡ w
+unfolding written more
+written_nothing w = refl
 
-pub nothing : (l : List ℕ) (a : ℕ) → Says [] l a l a
-unfolding more
-nothing l a = record { says = refl }
-
--- the same text under another name
-pub renamed : {t u l l' : List ℕ} {a a' : ℕ} → t ≡ u → Says t l a l' a' → Says u l a l' a'
-renamed {t} {u} {l} {l'} {a} e x = record { says = x.says ∙ ap (λ (v : List ℕ). more v (page l a)) e }
-
--- a byte where there is room, and where there is none
-pub stored : (b : ℕ) (l : List ℕ) (a : ℕ) → a < length l → Says (b ∷ []) l a (set l a b) (a + 1)
-unfolding more byte_more
-stored b l a h = record { says = simp (lt-ltb _ _ h, add-one) }
-
-pub left_out : (b : ℕ) (l : List ℕ) (a : ℕ) → length l ≤ a → Says (b ∷ []) l a l a
-unfolding more byte_more
-left_out b l a h = record { says = simp (le-ltb _ _ h) }
+-- a byte, and the text behind it
+pub written_first : (b : ℕ) (t : List ℕ) (w : Writer) → written (b ∷ t) w ≡ written t (written (b ∷ []) w)
+written_first b t w = written_append (b ∷ []) t w
 
 -- one byte more of a text
-pub next_byte : (s : List ℕ) {l l' l'' : List ℕ} {a a' a'' : ℕ} (i d : ℕ) → i < length s → Says (take i s) l a l' a' → Says (get_or s i d ∷ []) l' a' l'' a'' → Says (take (i + 1) s) l a l'' a''
-next_byte s i d h x y = renamed (sym (ap (λ (k : ℕ). take k s) (add-one i) ∙ take-suc s i d h)) (after x y)
+pub written_byte : (s : List ℕ) (i d : ℕ) (w : Writer) → i < length s → written (take (i + 1) s) w ≡ written (get_or s i d ∷ []) (written (take i s) w)
+written_byte s i d w h = ap (λ (t : List ℕ). written t w) (ap (λ (k : ℕ). take k s) (add-one i) ∙ take-suc s i d h) ∙ written_append _ _ w
 
--- What a writer leaves: a buffer as long as before, the next place within it, and where there is room the text, with all else as it was.
-more_length : (t : List ℕ) (p : Page) → length (more t p).bytes ≡ length p.bytes
-unfolding more byte_more
-more_length [] p = refl
-more_length (b ∷ t) p = more_length t (byte_more b p) ∙ kept (ltb p.at (length p.bytes))
-  where
-    kept : (c : Bool) → length (cond c (page (set p.bytes p.at b) (suc p.at)) p).bytes ≡ length p.bytes
-    kept true = length-set p.bytes p.at b
-    kept false = refl
+-- a method after another writes its text after the other's
+pub after : (t u : List ℕ) (w : Writer) {x y : Writer} → x ≡ written t w → y ≡ written u x → y ≡ written (t ++ u) w
+after t u w a b = b ∙ ap (written u) a ∙ sym (written_append t u w)
 
-byte_within : (b : ℕ) (p : Page) → p.at ≤ length p.bytes → (byte_more b p).at ≤ length (byte_more b p).bytes
-unfolding byte_more
-byte_within b p h = go (dec_lt p.at (length p.bytes))
-  where
-    go : Dec (p.at < length p.bytes) → (byte_more b p).at ≤ length (byte_more b p).bytes
-    go (yes l) = rw (lt-ltb _ _ l) (rw length-set l)
-    go (no g) = let e : length p.bytes ≤ p.at = omega arith in rw (le-ltb _ _ e) h
+pub nothing : (w : Writer) → w ≡ written [] w
+nothing w = sym (written_nothing w)
 
-more_within : (t : List ℕ) (p : Page) → p.at ≤ length p.bytes → (more t p).at ≤ length (more t p).bytes
-unfolding more
-more_within [] p h = h
-more_within (b ∷ t) p h = more_within t (byte_more b p) (byte_within b p h)
+-- the same text under another name
+pub renamed : (w : Writer) {t u : List ℕ} {x : Writer} → t ≡ u → x ≡ written t w → x ≡ written u w
+renamed w e a = a ∙ ap (λ (v : List ℕ). written v w) e
 
-more_room : (t : List ℕ) (l : List ℕ) (a : ℕ) → a + length t ≤ length l → more t (page l a) ≡ page (sets l a t) (a + length t)
-unfolding more byte_more
-more_room [] l a h = let e : a ≡ a + 0 = omega arith in ap (page l) e
-more_room (b ∷ t) l a h =
-    let i : a < length l = omega arith in
-    let e : suc a + length t ≡ a + suc (length t) = omega arith in
-    rw (lt-ltb _ _ i) (more_room t (set l a b) (suc a) (rw length-set (omega arith)) ∙ ap (page (sets (set l a b) (suc a) t)) e)
+-- what a method says of the buffer's bytes and of the places: the theorems of Bytes.antt follow
+pub says_of_bytes : (t : List ℕ) (w : Writer) {x : Writer} → x ≡ written t w → Says t w.buffer.now w.at x.buffer.now x.at
+unfolding written
+says_of_bytes t w a = record { says = ap (λ (x : Writer). page x.buffer.now x.at) a }
 
-module _ {t l l' : List ℕ} {a a' : ℕ} (x : Says t l a l' a') where
-  pub as_long : length l' ≡ length l
-  as_long = ap (λ (p : Page). length p.bytes) x.says ∙ more_length t (page l a)
-
-  pub next_within : a ≤ length l → a' ≤ length l'
-  next_within h = subst (λ (p : Page). p.at ≤ length p.bytes) (sym x.says) (more_within t (page l a) h)
-
-  pub text_stands : a + length t ≤ length l → (l' ≡ take a l ++ t ++ drop (a + length t) l) × (a' ≡ a + length t)
-  text_stands h =
-      let e = x.says ∙ more_room t l a h in
-      (ap (λ (p : Page). p.bytes) e ∙ sets-eq t l a h, ap (λ (p : Page). p.at) e)
+-- the same of a buffer l that was lent to a writer while it was used, as a caller knows it: it holds what the writer's does if that is still the same buffer
+pub lent_back : (t : List ℕ) (w : Writer) {x : Writer} {l : List ℕ} → x ≡ written t w → (w.buffer.ghost_name ≡ x.buffer.ghost_name → l ≡ x.buffer.now) → Says t w.buffer.now w.at l x.at
+unfolding written
+lent_back t w {x} a same =
+    let e = same (sym (ap (λ (x : Writer). x.buffer.ghost_name) a)) in
+    subst (λ (l : List ℕ). Says t w.buffer.now w.at l x.at) (sym e) (says_of_bytes t w a)

@@ -1,11 +1,9 @@
 -- A double as text. "Numbers that are whole multiples of 1/10,000 print in decimals, others as their 16 hex digits": a double prints in decimals if it is the one nearest to such a multiple.
-use Rattle.std.specs.Prelude.{ℕ, ◌/◌, ◌%◌, ◌^◌, Bool, cond, ◌&&◌, List, [], ◌++◌, pos, ◌==◌, from_bits, nat_lt, to_bits, Float}
+use Rattle.std.specs.Prelude.{ℕ, ◌/◌, ◌%◌, ◌^◌, Bool, cond, ◌&&◌, List, [], ◌++◌, pos, Option, Some, None, ◌==◌, from_bits, nat_lt, to_bits, Float}
 use Rattle.std.specs.Float.{nan, inf, fin, binary64}
 use Rattle.std.specs.Float.Ieee.{add, mul, div, neg, lt, eq, of_int, to_unsigned}
 use Rattle.text.specs.Text.{ascii}
 use Rattle.text.specs.Digits.{digits, decimal}
-use Rattle.text.specs.declared.double.Multiple.{Multiple}
-use Rattle.text.specs.declared.double.Multiple.TheVariants.{TenThousandths, None}
 
 -- below 0, or −0
 abbrev pub minus : Float → Bool
@@ -30,10 +28,10 @@ abbrev pub ten_thousandths : ℕ → Float
 ten_thousandths k = div binary64 (of_int binary64 (pos k)) ten_thousand
 
 -- of an x that is not negative: how many ten-thousandths it is the nearest double to. Below 2^51 the product rounds by less than the half
-unfoldable pub nearest : Float → Multiple
+unfoldable pub nearest : Float → Option ℕ
 nearest x =
     let k = to_unsigned 64 (scaled x) in
-    cond (lt (fin Bool.true 1 (pos 0)) (scaled x) && (lt (scaled x) (fin Bool.false 1 (pos 64)) && (nat_lt k (2 ^ 51) && eq (ten_thousandths k) x))) (TenThousandths k) None
+    cond (lt (fin Bool.true 1 (pos 0)) (scaled x) && (lt (scaled x) (fin Bool.false 1 (pos 64)) && (nat_lt k (2 ^ 51) && eq (ten_thousandths k) x))) (Some k) None
 
 -- four digits after the point, without zeros at the end
 unfoldable pub fraction : ℕ → List ℕ
@@ -46,8 +44,8 @@ fraction f =
 abbrev pub sign : Float → List ℕ
 sign x = cond (minus x) (ascii "-") []
 
-unfoldable pub shown : Multiple → Float → List ℕ
-shown (TenThousandths k) x = sign x ++ decimal (k / 10000) ++ fraction (k % 10000)
+unfoldable pub shown : Option ℕ → Float → List ℕ
+shown (Some k) x = sign x ++ decimal (k / 10000) ++ fraction (k % 10000)
 shown None x = ascii "0x" ++ digits 16 16 (to_bits binary64 x)
 
 unfoldable pub number : Float → List ℕ

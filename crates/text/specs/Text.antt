@@ -4,6 +4,7 @@ use Prim.Native.Char.{code}
 use Prim.Native.String.{String, [] as empty, ◌∷◌ as ◌then◌}
 use Rattle.std.specs.Borrow.{MutBor}
 use denote.Triple.Both.{Both}
+use Rattle.text.specs.declared.writer.Writer.{Writer}
 
 -- the bytes of a text of ASCII
 abbrev pub ascii : String → List ℕ
@@ -31,5 +32,12 @@ more (b ∷ bs) p = more bs (byte_more b p)
 pub record Says (text old : List ℕ) (at : ℕ) (new : List ℕ) (next : ℕ) : Type 0 where
   pub says : page new next ≡ more text (page old at)
 
-abbrev pub says : List ℕ → Both (MutBor (List ℕ)) (MutBor (List ℕ)) → ℕ → ℕ → Type 0
-says text out at next = Says text out.entry.now at out.exit.now next
+-- a writer after a text more: the same buffer, with the bytes and the place as `more` has them
+unfoldable pub written : List ℕ → Writer → Writer
+written text w =
+    let p = more text (page w.buffer.now w.at) in
+    record { buffer = record { ref_ptr = w.buffer.ref_ptr; ghost_name = w.buffer.ghost_name; now = p.bytes }; at = p.at }
+
+-- what a method says
+abbrev pub says : List ℕ → Both (MutBor Writer) (MutBor Writer) → Type 0
+says text writer = writer.exit.now ≡ written text writer.entry.now

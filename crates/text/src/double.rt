@@ -3,85 +3,85 @@ ghost use Rattle.std.specs.Prelude.{◌≡◌};
 ghost use Rattle.text.specs.Text.{says};
 ghost use Rattle.text.specs.Number.{minus, magnitude, nearest, fraction, sign, number};
 
-use crate::{decimal, digits, put, words};
+use crate::Writer;
 
-// How many ten-thousandths a double is nearest to.
-#[derive(Clone, Copy)]
-pub enum Multiple {
-    TenThousandths(u64),
-    None,
-}
-
-// Whether x is below 0 or −0.
+// Whether x is below 0 or −0. Not `f64::is_sign_negative`: it asks of its caller that x is no NaN.
 pub fn minus(x: f64) -> bool
     ensures { result ≡ minus x }
 {
     1.0 / x < 0.0
 }
 
+// Not `f64::abs`: at −∞ it differs, since 1 / −∞ is −0, which is not below 0.
+#[tactic(auto, unfolding(crate::specs::Number::magnitude))]
 fn magnitude(x: f64) -> f64
     ensures { result ≡ magnitude x }
 {
     if minus(x) { -x } else { x }
 }
 
-fn nearest(x: f64) -> Multiple
+// How many ten-thousandths a double is nearest to.
+#[tactic(auto, unfolding(crate::specs::Number::nearest))]
+fn nearest(x: f64) -> Option<u64>
     ensures { result ≡ nearest x }
 {
     let scaled = x * 10000.0 + 0.5;
-    if scaled > -1.0 {
-        if scaled < 18446744073709551616.0 {
-            let k = std::num::truncating_f64_to_u64(scaled);
-            if k < 2251799813685248 {
-                if std::num::nearest_u64_to_f64(k) / 10000.0 == x {
-                    return Multiple::TenThousandths(k);
-                }
+    if scaled > -1.0 && scaled < 18446744073709551616.0 {
+        let k = std::num::truncating_f64_to_u64(scaled);
+        if k < 2251799813685248 && std::num::nearest_u64_to_f64(k) / 10000.0 == x {
+            return Some(k);
+        }
+    }
+    None
+}
+
+impl Writer<'_> {
+    #[tactic(auto, using(crate::proofs::Laws::written_nothing, crate::proofs::Laws::written_first), unfolding(crate::specs::Number::fraction))]
+    fn fraction(&mut self, f: u64)
+        ensures { says (fraction f) self }
+    {
+        if f == 0 {
+            return;
+        }
+        self.put(b'.');
+        if f % 1000 == 0 {
+            self.digits(10, 1, f / 1000);
+        } else if f % 100 == 0 {
+            self.digits(10, 2, f / 100);
+        } else if f % 10 == 0 {
+            self.digits(10, 3, f / 10);
+        } else {
+            self.digits(10, 4, f);
+        }
+    }
+
+    #[tactic(auto, using(crate::proofs::Laws::written_nothing))]
+    fn sign(&mut self, x: f64)
+        ensures { says (sign x) self }
+    {
+        if minus(x) {
+            self.put(b'-');
+        }
+    }
+
+    #[tactic(auto, using(crate::proofs::Doubles::number_nan))]
+    pub fn number(&mut self, x: f64)
+        ensures { says (number x) self }
+    {
+        if x.is_nan() {
+            self.words(b"NaN");
+            return;
+        }
+        match nearest(magnitude(x)) {
+            Some(k) => {
+                self.sign(x);
+                self.decimal(k / 10000);
+                self.fraction(k % 10000);
             }
-        }
-    }
-    Multiple::None
-}
-
-fn fraction(out: &mut [u8], at: usize, f: u64) -> usize
-    ensures { says (fraction f) out at result }
-{
-    if f == 0 {
-        return at;
-    }
-    let next = put(out, at, b'.');
-    if f % 1000 == 0 {
-        return digits(out, next, 10, 1, f / 1000);
-    }
-    if f % 100 == 0 {
-        return digits(out, next, 10, 2, f / 100);
-    }
-    if f % 10 == 0 {
-        return digits(out, next, 10, 3, f / 10);
-    }
-    digits(out, next, 10, 4, f)
-}
-
-fn sign(out: &mut [u8], at: usize, x: f64) -> usize
-    ensures { says (sign x) out at result }
-{
-    if minus(x) { put(out, at, b'-') } else { at }
-}
-
-pub fn number(out: &mut [u8], at: usize, x: f64) -> usize
-    ensures { says (number x) out at result }
-{
-    if x != x {
-        return words(out, at, b"NaN");
-    }
-    match nearest(magnitude(x)) {
-        Multiple::TenThousandths(k) => {
-            let next = sign(out, at, x);
-            let point = decimal(out, next, k / 10000);
-            fraction(out, point, k % 10000)
-        }
-        Multiple::None => {
-            let next = words(out, at, b"0x");
-            digits(out, next, 16, 16, f64::to_bits(x))
+            None => {
+                self.words(b"0x");
+                self.digits(16, 16, f64::to_bits(x));
+            }
         }
     }
 }

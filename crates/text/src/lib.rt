@@ -1,71 +1,73 @@
-// Text in a lent buffer of bytes: words, whole numbers, doubles. A writer takes the buffer and the place of its first byte, and answers the place
-// after its last. What the buffer has no room for is left out.
+// Text in a lent buffer of bytes: words, whole numbers, doubles. What the buffer has no room for is left out.
 #![tactic(auto)]
 
 mod double;
+mod writer;
 
 ghost use Rattle.std.specs.Prelude.{◌≡◌, ◌+◌, ◌<◌, ◌≤◌, [], ◌∷◌};
 ghost use Rattle.text.specs.Text.{says};
 ghost use Rattle.text.specs.Digits.{digit, digits, places, decimal};
 
-pub use double::{minus, number};
+pub use double::minus;
+pub use writer::Writer;
 
-pub fn put(out: &mut [u8], at: usize, byte: u8) -> usize
-    ensures { says (byte ∷ []) out at result }
-{
-    if at < out.len() {
-        out[at] = byte;
-        return at + 1;
-    }
-    at
-}
-
-pub fn words(out: &mut [u8], at: usize, text: &[u8]) -> usize
-    ensures { says text.now out at result }
-{
-    let mut next = at;
-    let mut i: usize = 0;
-    while i < text.len() {
-        next = put(out, next, text[i]);
-        i += 1;
-    }
-    next
-}
-
+// Not `char::from_digit`: what it answers is an Option of a char, and the byte had still to be taken out of both.
 fn digit(d: u64) -> u8
     requires { d < 16 }
     ensures { result ≡ digit d }
 {
-    if d < 10 { 48 + d as u8 } else { 87 + d as u8 }
+    if d < 10 {
+        b'0' + d as u8
+    } else {
+        b'a' - 10 + d as u8
+    }
 }
 
-// The last k digits of n.
-fn digits(out: &mut [u8], at: usize, base: u64, k: usize, n: u64) -> usize
-    requires { (0 < base) × (base ≤ 16) }
-    ensures { says (digits base k n) out at result }
+// How many decimal digits n has.
+#[tactic(auto, using(crate::proofs::Numerals::places_power))]
+fn places(n: u64) -> usize
+    ensures { result ≡ places 19 n }
 {
-    if k == 0 {
-        return at;
-    }
-    let next = digits(out, at, base, k - 1, n / base);
-    put(out, next, digit(n % base))
+    n.max(1).ilog10() as usize + 1
 }
 
-fn places(k: usize, n: u64) -> usize
-    requires { k < 20 }
-    ensures { (result ≡ places k n) × (result ≤ k + 1) }
-{
-    if k == 0 {
-        return 1;
+impl Writer<'_> {
+    #[tactic(auto, unfolding(crate::specs::Text::written, crate::specs::Text::more, crate::specs::Text::byte_more))]
+    pub fn put(&mut self, byte: u8)
+        ensures { says (byte ∷ []) self }
+    {
+        if self.at < self.buffer.len() {
+            self.buffer[self.at] = byte;
+            self.at += 1;
+        }
     }
-    if n < 10 {
-        return 1;
-    }
-    places(k - 1, n / 10) + 1
-}
 
-pub fn decimal(out: &mut [u8], at: usize, n: u64) -> usize
-    ensures { says (decimal n) out at result }
-{
-    digits(out, at, 10, places(19, n), n)
+    #[tactic(auto, using(crate::proofs::Laws::written_nothing, crate::proofs::Laws::written_byte))]
+    pub fn words(&mut self, text: &[u8])
+        ensures { says text.now self }
+    {
+        for byte in text {
+            self.put(*byte);
+        }
+    }
+
+    // The last k digits of n.
+    #[tactic(auto, using(crate::proofs::Laws::written_nothing, crate::proofs::Numerals::digits_none, crate::proofs::Numerals::written_digits))]
+    fn digits(&mut self, base: u64, k: usize, n: u64)
+        requires { (0 < base) × (base ≤ 16) }
+        ensures { says (digits base k n) self }
+    {
+        if k == 0 {
+            return;
+        }
+        self.digits(base, k - 1, n / base);
+        self.put(digit(n % base));
+    }
+
+    // Not `write!`: it may answer an error, of which its law says nothing, and a writer here cannot fail.
+    pub fn decimal(&mut self, n: u64)
+        ensures { says (decimal n) self }
+    {
+        self.digits(10, places(n), n);
+    }
 }

@@ -1,71 +1,8 @@
-use borrow.Author.Rules.{rules}
-use mathlib.Core.Path.{refl}
+use Rattle.std.proofs.Common.{rules}
 use Rattle.text.proofs.Laws.{renamed}
-use Rattle.refusal_words.proofs.Sentences.{place_known, place_unknown}
+use Rattle.refusal_words.specs.Refusals.{place}
 use Rattle.refusal_words.proofs.place.Goals as goal
 
-pub returns-in-1 : goal.returns-in-1
-returns-in-1 c = place_known _ 1 refl c.in-1.is c.placed.ensures
-
-pub returns-in-2 : goal.returns-in-2
-returns-in-2 c = place_known _ 2 refl c.in-2.is c.placed-in-2.ensures
-
-pub returns-in-3 : goal.returns-in-3
-returns-in-3 c = place_known _ 3 refl c.in-3.is c.placed-in-3.ensures
-
-pub returns-in-4 : goal.returns-in-4
-returns-in-4 c = place_known _ 4 refl c.in-4.is c.words.ensures
-
-pub returns-in-5 : goal.returns-in-5
-returns-in-5 c = place_known _ 5 refl c.in-5.is c.words-in-5.ensures
-
-pub returns-in-6 : goal.returns-in-6
-returns-in-6 c = place_known _ 6 refl c.in-6.is c.placed-in-6.ensures
-
-pub returns-in-7 : goal.returns-in-7
-returns-in-7 c = place_known _ 7 refl c.in-7.is c.placed-in-7.ensures
-
-pub returns-in-8 : goal.returns-in-8
-returns-in-8 c = place_known _ 8 refl c.in-8.is c.words-in-8.ensures
-
-pub returns-in-9 : goal.returns-in-9
-returns-in-9 c = place_known _ 9 refl c.in-9.is c.words-in-9.ensures
-
-pub returns-in-10 : goal.returns-in-10
-returns-in-10 c = place_known _ 10 refl c.in-10.is c.words-in-10.ensures
-
-pub returns-in-11 : goal.returns-in-11
-returns-in-11 c = place_known _ 11 refl c.in-11.is c.placed-in-11.ensures
-
-pub returns-in-12 : goal.returns-in-12
-returns-in-12 c = place_known _ 12 refl c.in-12.is c.placed-in-12.ensures
-
-pub returns-in-13 : goal.returns-in-13
-returns-in-13 c = place_known _ 13 refl c.in-13.is c.placed-in-13.ensures
-
-pub returns-in-14 : goal.returns-in-14
-returns-in-14 c = place_known _ 14 refl c.in-14.is c.words-in-14.ensures
-
-pub returns-in-15 : goal.returns-in-15
-returns-in-15 c = place_known _ 15 refl c.in-15.is c.placed-in-15.ensures
-
-pub returns-in-16 : goal.returns-in-16
-returns-in-16 c = place_known _ 16 refl c.in-16.is c.placed-in-16.ensures
-
-pub returns-in-17 : goal.returns-in-17
-returns-in-17 c = place_known _ 17 refl c.in-17.is c.placed-in-17.ensures
-
-pub returns-in-18 : goal.returns-in-18
-returns-in-18 c = place_known _ 18 refl c.in-18.is c.placed-in-18.ensures
-
-pub returns-in-19 : goal.returns-in-19
-returns-in-19 c = place_known _ 19 refl c.in-19.is c.placed-in-19.ensures
-
-pub returns-in-20 : goal.returns-in-20
-returns-in-20 c = place_known _ 20 refl c.in-20.is c.words-in-20.ensures
-
-pub returns-in-28 : goal.returns-in-28
-returns-in-28 c = place_known _ 28 refl c.in-28.is c.words-in-28.ensures
-
 pub returns-in_default : goal.returns-in_default
-returns-in_default c = renamed (place_unknown c.args.number _ (search rules)) c.words-in_default.ensures
+unfolding place
+returns-in_default c = renamed _ (search rules) c.words-in_default.ensures

@@ -1,7 +1,7 @@
-use Rattle.text.proofs.Laws.{after}
+use Rattle.text.proofs.Laws.{written_append}
 use Rattle.refusal_words.specs.Refusals.{refused}
 use Rattle.refusal_words.proofs.refused.Goals as goal
 
 pub returns : goal.returns
 unfolding refused
-returns c = after (after (after (after (after (after (after (after (after (after c.words-a.ensures c.decimal-b.ensures) c.words-c.ensures) c.decimal-d.ensures) c.words-e.ensures) c.complaint-f.ensures) c.words-g.ensures) c.person-h.ensures) c.words-i.ensures) c.place-j.ensures) c.words.ensures
+returns c = simp (written_append, c.words.ensures, c.decimal.ensures, c.words-2.ensures, c.decimal-2.ensures, c.words-3.ensures, c.complaint.ensures, c.words-4.ensures, c.words-5.ensures, c.person.ensures, c.words-6.ensures, c.words-7.ensures, c.place.ensures, c.words-8.ensures)
