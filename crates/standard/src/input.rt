@@ -2,8 +2,7 @@
 
 ghost use Rattle.std.specs.Prelude.{◌≡◌, length};
 ghost use Rattle.acc_jerk.specs.Tables.{AccSized, JerkSized};
-ghost use Rattle.first_order.specs.Limits.{limits_of};
-ghost use Rattle.standard.specs.Input.{limits_in};
+ghost use Rattle.first_order.specs.Limits.{limits, limits_of};
 
 use acc_jerk::{AccelerationRows, JerkRows};
 use buffers::Path;
@@ -27,7 +26,7 @@ impl<'a> StandardInput<'a> {
     // What the first-order rows are written from.
     pub fn limits(self) -> Limits<'a>
         ensures path { result.path ≡ self.entry.path }
-        ensures limits { limits_of result ≡ limits_in self.entry }
+        ensures limits { limits_of result ≡ limits self.entry.start self.entry.end self.entry.amax.now }
     {
         Limits {
             path: self.path,
