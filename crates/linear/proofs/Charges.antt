@@ -3,7 +3,7 @@ use mathlib.Core.Path.{◌≡◌, refl, sym, ap, subst, ◌∙◌}
 use mathlib.Core.Bool.{Bool, cond}
 use mathlib.Core.Logic.{◌≢◌}
 use mathlib.Core.List.{List, [], ◌∷◌, ◌++◌}
-use Prim.Native.Nat.{ℕ, zero, suc, ◌+◌, ◌-◌, ◌≤◌, ◌<◌, max}
+use Prim.Native.Nat.{ℕ, zero, suc, ◌+◌, ◌-◌, ◌≤◌, ◌<◌}
 use native.Mathlib.Nat.{zero-add}
 use native.Mathlib.Numerals.{add-one}
 use native.Mathlib.Decide.{ℕ_discrete}
@@ -28,17 +28,11 @@ charged_on x c v = rw (eq-eqb c c refl)
 
 -- a loop whose charges are all on the column
 module _ {x : Float} {c : ℕ} {f : ℕ → Float} {k : ℕ} where
-  pub sums_none : Sums x x c f k 0
-  sums_none = record { says = refl }
-
   pub sums_more : {y v : Float} {i : ℕ} → Sums y x c f k i → v ≡ f (k + i) → Sums (y ⊕ v) x c f k (i + 1)
   sums_more {y} {v} {i} p e =
       record {
         says = sym (rw (add-one, list_snoc (λ (j : ℕ). cell c (f j)) k i, charged_append x c (list (λ (j : ℕ). cell c (f j)) k i) (cell c (f (k + i)) ∷ []), ← p.says, ← e) (charged_on y c v));
       }
-
-  pub sums_all : {y : Float} {i m : ℕ} → Sums y x c f k i → i ≤ m → m ≤ i → Sums y x c f k m
-  sums_all {i} {m} p h g = let e : m ≡ i = omega arith in rw e p
 
 -- charges on other columns
 pub charged_past : (x : Float) (c : ℕ) (ks : List Cell) → All (λ k. k.column ≢ c) ks → charged_at x c ks ≡ x
@@ -65,13 +59,6 @@ list_on x c g z k (suc m) e u h l = hit x c g z k m e u (λ a. list_on x c g z (
 pub charged_then : {x y z : Float} {c : ℕ} {cs ds : List Cell} → Charged y x c cs → Charged z y c ds → Charged z x c (cs ++ ds)
 charged_then {x} {z} {c} {cs} {ds} p q =
     record { says = subst (λ (w : Float). z ≡ charged_at w c ds) p.says q.says ∙ sym (charged_append x c cs ds) }
-
--- an end's charges, on its column
-pub end_on : {y x : Float} {c e : ℕ} {f : ℕ → Float} {k i m : ℕ} → Sums y x e f k i → e ≡ c → i ≡ m → Charged y x c (list (λ j. cell e (f j)) k m)
-end_on {y} {x} {c} {e} {f} {k} {i} {m} p q h =
-    record {
-      says = subst (λ (z : ℕ). y ≡ charged_at x z (list (λ j. cell e (f j)) k m)) q (subst (λ (z : ℕ). y ≡ charged_at x e (list (λ j. cell e (f j)) k z)) h p.says);
-    }
 
 pub past_by : {x : Float} {c : ℕ} (g : ℕ → Cell) (k m : ℕ) → ((j : ℕ) → k ≤ j → j < k + m → (g j).column ≢ c) → Charged x x c (list g k m)
 past_by {x} {c} g k m h = record { says = sym (list_past x c g k m h) }

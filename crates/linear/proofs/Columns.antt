@@ -2,24 +2,22 @@
 use mathlib.Core.Path.{◌≡◌, refl, sym, ap, subst, ◌∙◌}
 use mathlib.Core.Bool.{cond}
 use mathlib.Core.List.{List, [], ◌∷◌}
-use Prim.Native.Nat.{ℕ, ◌+◌, ◌-◌, ◌<◌}
+use Prim.Native.Nat.{ℕ, ◌<◌}
 use native.Mathlib.Nat.{zero-add}
 use native.Mathlib.Decide.{ℕ_discrete}
 use native.Mathlib.Omega.{arith}
 use borrow.Author.Tests.{eq-eqb, ne_eqb}
 use lib.Dec.{eqb}
 use lib.Ieee.{Float, nan}
-use lib.ListN.{length, take, drop, set, length-set}
+use lib.ListN.{length, set, length-set}
 use lib.Seq.{get_or-set_same, get_or-set_other, ext_get_or}
 use Rattle.model.specs.Numbers.{at, ◌⊕◌}
-use Rattle.model.specs.Lists.{list, part}
+use Rattle.model.specs.Lists.{list}
 use Rattle.model.specs.Program.{Cell, charged}
 use Rattle.model.proofs.Sums.{length_list}
 use Rattle.model.proofs.Counted.{charged_length}
 use Rattle.model.proofs.Feasible.{get_d_list}
-use Rattle.buffers.proofs.Parts.{cancel}
-use Rattle.linear.specs.Charges.{charged_at, Charged, linear_charges}
-use Rattle.model.specs.declared.Ends.{Ends}
+use Rattle.linear.specs.Charges.{charged_at}
 
 at_set : (q : List Float) (j c : ℕ) (v : Float) → c < length q → Dec (j ≡ c) → at (set q j (at q j ⊕ v)) c ≡ cond (eqb j c) (at q c ⊕ v) (at q c)
 at_set q j c v h (yes p) =
@@ -40,11 +38,3 @@ charged_columns q cs =
     let long = charged_length q cs in
     ext_get_or nan (charged q cs) (list f 0 (length q)) (long ∙ sym (length_list f 0 (length q)))
     (λ c l. charged_get q cs c (omega (arith, long)) ∙ sym (get_d_list f 0 (length q) c nan (omega (arith, long)) ∙ ap f (zero-add c)))
-
--- parts of the pool, as the code takes them
-module _ {y x : Float} {c : ℕ} (s : List Float) (e : Ends) (r0 r1 : List Float) (w : Float) where
-  pub charged_parts : (pool : List Float) (a al b bl : ℕ)
-      → Charged y x c (linear_charges s e r0 r1 w (take (a + al - a) (drop a pool)) (take (b + bl - b) (drop b pool))) → Charged y x c (linear_charges s e r0 r1 w (part pool a al) (part pool b bl))
-  charged_parts pool a al b bl h =
-      subst (λ (k : ℕ). Charged y x c (linear_charges s e r0 r1 w (part pool a al) (take k (drop b pool)))) (cancel b bl)
-      (subst (λ (k : ℕ). Charged y x c (linear_charges s e r0 r1 w (take k (drop a pool)) (take (b + bl - b) (drop b pool)))) (cancel a al) h)

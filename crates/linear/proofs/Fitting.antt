@@ -2,7 +2,9 @@
 use Prim.Native.Nat.{ℕ, ◌<◌}
 use lib.Ieee.{nan}
 use lib.ListN.{get_or}
-use Rattle.model.specs.Problem.{Problem}
+use Rattle.std.specs.Prelude.{All}
+use Rattle.std.proofs.lemmas.List.Elements.{All-from_get_or}
+use Rattle.model.specs.Problem.{Problem, objectives}
 use Rattle.model.specs.declared.Objective.{Objective}
 use Rattle.model.specs.declared.Objective.TheVariants.{Time, ThermalEnergy, TotalVariationTorque, Linear}
 use Rattle.model.proofs.Usable.{Usable, Ready}
@@ -18,3 +20,9 @@ module _ (p : Problem) where
 
   pub usable_fits : Usable p → (i : ℕ) → i < p.count → Fits p.path.grid (ends_of p) p.roots.start p.roots.end p.pool (get_or p.slots i (Time nan))
   usable_fits u i l = ready_fits (get_or p.slots i (Time nan)) (u.slot i l)
+
+  -- the same of the objectives as a list
+  pub usable_all : Usable p → All (Fits p.path.grid (ends_of p) p.roots.start p.roots.end p.pool) (objectives p)
+  usable_all u =
+      All-from_get_or (Fits p.path.grid (ends_of p) p.roots.start p.roots.end p.pool) (objectives p) (Time nan)
+      (λ i l. ready_fits (get_or (objectives p) i (Time nan)) (u.objective i))

@@ -17,8 +17,8 @@ ghost use Rattle.linear.specs.Parts.{FitsIn, charges_in, cost_in};
 
 use model::{Buffers, Column, Objective, Tally};
 use objective_kinds::{any_is, is_linear};
-use parts::LinearObjective;
 pub use parts::LinearInput;
+use parts::LinearObjective;
 
 // The cost of column c after an objective, from its cost x before: only a Linear adds to it.
 fn charge(x: f64, input: &LinearInput, o: Objective, c: Column) -> f64
@@ -59,12 +59,7 @@ pub fn column_cost(input: &LinearInput, objectives: &[Objective], c: Column) -> 
 }
 
 // The cost of the a and b columns: each told and written on its own, so that nothing is read back. Without a Linear it is 0.
-pub fn ab_costs(
-    t: Tally,
-    out: &mut Buffers,
-    input: &LinearInput,
-    objectives: &[Objective],
-) -> Tally
+pub fn ab_costs(t: Tally, out: &mut Buffers, input: &LinearInput, objectives: &[Objective]) -> Tally
     requires { (t.columns.at + 2 * length input.now.path.grid.now ≤ 2 ^ 32) × All (FitsIn input.now) objectives.now }
     ensures { FillsCost t out.old result out.new (cost_in input.now objectives.now) 0 (2 * (n (path_of input.now.path) + 1)) }
 {

@@ -16,5 +16,5 @@ pub returns : goal.returns
 returns c =
     let a = c.args.input.now in
     let none = none_charged a.path.grid.now a.path.ends a.roots.start.now a.roots.end.now a.pool.now c.args.objectives.now
-        (sym (c.any_is.ensures is_linear (λ o b p. search (rules, tests))) ∙ c.if-any_is.false) in
+    (sym (c.any_is.ensures is_linear (λ o b p. search (rules, tests))) ∙ c.if-any_is.false) in
     cost_all (c.fill_cost-2.ensures (cost_in a c.args.objectives.now) (λ i x lt e. let zero : x ≡ +0 = search rules in zero ∙ ap (λ (l : List Cell). charged_at +0 i l) (sym none))) (omega arith) (omega arith)

@@ -1,4 +1,4 @@
-use Rattle.std.proofs.Common.{arith, rules}
+use Rattle.std.proofs.Common.{rules}
 use Rattle.std.proofs.lemmas.List.{take_more}
 use Rattle.linear.specs.Parts.{charges_in}
 use Rattle.linear.proofs.Objectives.{charged_next}

@@ -1,5 +1,4 @@
-use Rattle.std.proofs.Common.{arith, rules, ℕ, length}
-use lib.Ieee.{Float}
+use Rattle.std.proofs.Common.{arith, rules, length}
 use Rattle.model.specs.Numbers.{at, ◌⊗◌}
 use Rattle.model.specs.Problem.{m, stop}
 use Rattle.linear.proofs.Charges.{list_before, list_behind, list_here}
