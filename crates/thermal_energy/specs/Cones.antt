@@ -20,10 +20,14 @@ module _ (x : ScaledTorque) where
   tables_of = torque_of x.d x.tables.a.now x.tables.b.now x.tables.g.now
 
   -- the columns of the second, on a and b of station k
+  abbrev pub a_cell : ℕ → ℕ → Cell
+  a_cell k i = cell (col_a (path_of x.path) k) (torque_a (path_of x.path) tables_of x.scales.now k i)
+
+  abbrev pub b_cell : ℕ → ℕ → Cell
+  b_cell k i = cell (col_b (path_of x.path) k) (torque_b (path_of x.path) tables_of x.scales.now k i)
+
   abbrev pub joint_columns : ℕ → List (ℕ → Cell)
-  joint_columns k =
-      let q = path_of x.path in
-      (λ i. cell (col_a q k) (torque_a q tables_of x.scales.now k i)) ∷ (λ i. cell (col_b q k) (torque_b q tables_of x.scales.now k i)) ∷ []
+  joint_columns k = a_cell k ∷ b_cell k ∷ []
 
   -- a scaled number of table 13
   abbrev pub gravity : ℕ → ℕ → Float

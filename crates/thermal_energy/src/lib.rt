@@ -116,6 +116,7 @@ fn moving_cones(t: Tally, out: &mut Buffers, torque: ScaledTorque, col: Column) 
 }
 
 // All cones.
+#[tactic(auto, unfolding(model::specs::Problem::L, model::specs::Problem::stop))]
 fn cones(t: Tally, out: &mut Buffers, torque: ScaledTorque, col: Column) -> Tally
     requires { RoomAll t (thermal_room (length torque.path.grid.now)) × (col.at + length torque.path.grid.now + 2 ≤ 2 ^ 32) }
     ensures { Closed t out.old result out.new (thermal_cones torque.entry col.at) (thermal_room (length torque.entry.path.grid.now)) }
