@@ -11,6 +11,8 @@ use Rattle.model.specs.Refusals.{refusal}
 use Rattle.model.specs.Counts.{counts, entry_bound}
 use Rattle.model.specs.Owners.{index_places}
 use Rattle.model.specs.Answers.{Told, outcome, sizing, Buffers, lengths, room_refusal, index_refusal, finite_refusal, written, Result, result, assembly}
+use Rattle.model.specs.declared.rule.Rule.{Rule}
+use Rattle.model.specs.declared.rule.Rule.TheVariants.{BufferTooShort, IndexTooShort}
 use Rattle.model.proofs.Passes.{then_passes}
 use Rattle.model.proofs.Room.{then_accepted, needs, Enough, Short, Room, enough, short, room, room_enough, room_short, HasIndex, index_short, index_passes}
 use Rattle.model.proofs.Fits.{Small}
@@ -21,8 +23,8 @@ use Rattle.model.proofs.Written.{Writes, Formed, writes, formed}
 abbrev pub Acceptable : Problem → Type 0
 Acceptable p = (refusal p then finite_refusal p) ≡ accepted
 
--- refused by this number and place, and no buffer is changed
-abbrev pub refused_as : Problem → Buffers → ℕ → ℕ → Result
+-- refused by this rule and place, and no buffer is changed
+abbrev pub refused_as : Problem → Buffers → Rule → ℕ → Result
 refused_as p b r i = record { told = outcome (refused r i) (counts p); buffers = b }
 
 -- "For every accepted problem, whatever lengths the lent output buffers have:" Request 6: "demand 3's lengths are those of buffers 0 to 6, with an index buffer
@@ -37,12 +39,12 @@ pub record Demand3 (p : Problem) : Type 0 where
   pub just_enough : (b : Buffers) → HasIndex p b → lengths b ≡ needs (counts p) → (assembly p b).told ≡ sizing p
   -- "otherwise, .. , it is refused as no room", at the first buffer that is too short, and changes nothing
   pub otherwise : (b : Buffers) → (Enough (counts p) b → ⊥) → ((assembly p b).told.number ≡ 19) × ((assembly p b).buffers ≡ b)
-  pub no_room : (b : Buffers) (i : ℕ) → Short (counts p) b i → assembly p b ≡ refused_as p b 19 i
+  pub no_room : (b : Buffers) (i : ℕ) → Short (counts p) b i → assembly p b ≡ refused_as p b BufferTooShort i
   -- "as with one place fewer in any"
   pub one_fewer : (b : Buffers) (i : ℕ) → i < 7 → get_or (lengths b) i 0 + 1 ≡ get_or (needs (counts p)) i 0
-      → ((j : ℕ) → j < 7 → j ≢ i → get_or (needs (counts p)) j 0 ≤ get_or (lengths b) j 0) → assembly p b ≡ refused_as p b 19 i
+      → ((j : ℕ) → j < 7 → j ≢ i → get_or (needs (counts p)) j 0 ≤ get_or (lengths b) j 0) → assembly p b ≡ refused_as p b BufferTooShort i
   -- request 6: "An index buffer too short, by one place or more, is 28, directly after 19"
-  pub no_index : (b : Buffers) → Enough (counts p) b → length b.index < index_places (length (objectives p)) → assembly p b ≡ refused_as p b 28 0
+  pub no_index : (b : Buffers) → Enough (counts p) b → length b.index < index_places (length (objectives p)) → assembly p b ≡ refused_as p b IndexTooShort 0
   -- "Entries stay within document 01's bound."
   pub bounded : (counts p).entries ≤ entry_bound p
   -- document 01: "Row numbers, column numbers and cone dimensions are written as 32-bit whole numbers". They are below 2 ^ 25
@@ -79,11 +81,11 @@ module _ (p : Problem) (ok : Acceptable p) where
     unfolding result
     success x h = by_index h ∙ ap (λ (v : Verdict). result v p b) ((index_passes p b).1 x)
 
-    failure : (i : ℕ) → Short (counts p) b i → assembly p b ≡ refused_as p b 19 i
+    failure : (i : ℕ) → Short (counts p) b i → assembly p b ≡ refused_as p b BufferTooShort i
     unfolding result ◌then◌
     failure i s = by_room ∙ ap (λ (v : Verdict). result (v then index_refusal p (length b.index)) p b) (room_short (counts p) b i s)
 
-    no_index : Enough (counts p) b → length b.index < index_places (length (objectives p)) → assembly p b ≡ refused_as p b 28 0
+    no_index : Enough (counts p) b → length b.index < index_places (length (objectives p)) → assembly p b ≡ refused_as p b IndexTooShort 0
     unfolding result
     no_index h l = by_index h ∙ ap (λ (v : Verdict). result v p b) (index_short p b l)
 

@@ -9,6 +9,7 @@ use Rattle.model.specs.Numbers.{finite}
 use Rattle.model.specs.Problem.{Problem}
 use Rattle.model.specs.Assembled.{values, right_side, cost, all_finite}
 use Rattle.model.specs.Answers.{every_finite, finite_refusal}
+use Rattle.model.specs.declared.rule.Rule.TheVariants.{NumberNotFinite}
 use Rattle.model.proofs.All.{All}
 use Rattle.model.proofs.Passes.{both, refuse_passes}
 
@@ -27,6 +28,6 @@ pub record FiniteLists (p : Problem) : Type 0 where
 pub finite_lists : (p : Problem) → finite_refusal p ≡ accepted → FiniteLists p
 unfolding finite_refusal
 finite_lists p e =
-    let t = both _ _ (not-false _ ((refuse_passes 20 0 (not (every_finite p))).0 e)) in
+    let t = both _ _ (not-false _ ((refuse_passes NumberNotFinite 0 (not (every_finite p))).0 e)) in
     let k = both (all_finite (values p)) (all_finite (right_side p)) t.0 in
     record { values = all_finite_lem (values p) k.0; right = all_finite_lem (right_side p) k.1; cost = all_finite_lem (cost p) t.1 }

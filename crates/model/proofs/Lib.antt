@@ -11,6 +11,7 @@ pub mod Whole
 pub mod InCone
 pub mod Bound
 pub mod Attained
+pub mod Rules
 pub mod Passes
 pub mod Ready
 pub mod Usable

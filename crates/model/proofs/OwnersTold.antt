@@ -18,6 +18,8 @@ use Rattle.model.specs.Answers.{Told}
 use Rattle.model.specs.Owners.{Owner, owners, eight, index, index_places}
 use Rattle.model.specs.OwnerAnswers.{owned_by, no_owner, in_range, within, lowest_owner, owner_of, owner_of_row, owner_of_column}
 use Rattle.model.specs.declared.FourCounts.{FourCounts}
+use Rattle.model.specs.declared.rule.Rule.{Rule}
+use Rattle.model.specs.declared.rule.Rule.TheVariants.{IndexTooShort}
 use Rattle.model.proofs.Passes.{both}
 use Rattle.model.proofs.Room.{First, lowest_none, lowest_first}
 use Rattle.model.proofs.Owned.{none, In, OneOwner, owned, index_length}
@@ -29,13 +31,17 @@ abbrev told : Verdict → Told
 told (Ok tt) = no_owner 29
 told (Err e) = owned_by e.place
 
-as_lowest : (test : ℕ → Bool) (k c : ℕ) → lowest_owner test k c ≡ told (lowest 29 itself test k c)
+-- `told` leaves the rule out, so that any rule serves
+abbrev any : Rule
+any = IndexTooShort
+
+as_lowest : (test : ℕ → Bool) (k c : ℕ) → lowest_owner test k c ≡ told (lowest any itself test k c)
 unfolding lowest_owner lowest refuse ◌then◌
 as_lowest test k zero = refl
 as_lowest test k (suc c) = go (test k) (as_lowest test (suc k) c)
   where
-    go : (b : Bool) → lowest_owner test (suc k) c ≡ told (lowest 29 itself test (suc k) c)
-        → cond b (owned_by k) (lowest_owner test (suc k) c) ≡ told (refuse 29 k b then lowest 29 itself test (suc k) c)
+    go : (b : Bool) → lowest_owner test (suc k) c ≡ told (lowest any itself test (suc k) c)
+        → cond b (owned_by k) (lowest_owner test (suc k) c) ≡ told (refuse any k b then lowest any itself test (suc k) c)
     go true rest = refl
     go false rest = rest
 
@@ -51,12 +57,12 @@ module _ (f : ℕ) (index : List ℕ) (objectives r : ℕ) where
   -- "of several ranges that hold the row or column the lowest owner counts"
   pub lowest_counts : index_places objectives ≤ length index → (i : ℕ) → i < objectives + 2 → First (within index f r) 0 i → owner_of f index objectives r ≡ owned_by i
   unfolding owner_of
-  lowest_counts h i l t = rw (le-ltb (length index) (index_places objectives) h) (as_lowest test 0 (objectives + 2) ∙ ap told (lowest_first test 29 itself 0 (objectives + 2) i (omega arith) t))
+  lowest_counts h i l t = rw (le-ltb (length index) (index_places objectives) h) (as_lowest test 0 (objectives + 2) ∙ ap told (lowest_first test any itself 0 (objectives + 2) i (omega arith) t))
 
   -- "a row or column that isn't covered is 29"
   pub not_covered : index_places objectives ≤ length index → ((i : ℕ) → i < objectives + 2 → within index f r i ≡ false) → owner_of f index objectives r ≡ no_owner 29
   unfolding owner_of
-  not_covered h t = rw (le-ltb (length index) (index_places objectives) h) (as_lowest test 0 (objectives + 2) ∙ ap told (lowest_none test 29 itself 0 (objectives + 2) (λ i a b. t i (omega arith))))
+  not_covered h t = rw (le-ltb (length index) (index_places objectives) h) (as_lowest test 0 (objectives + 2) ∙ ap told (lowest_none test any itself 0 (objectives + 2) (λ i a b. t i (omega arith))))
 
 -- ---- the index of a problem
 

@@ -10,6 +10,8 @@ use borrow.Author.Tests.{ltb-false, leb-false, eqb-true, eqb-false, not-false, l
 use Rattle.std.specs.Prelude.{Ok, Err}
 use Rattle.model.specs.Verdicts.{Verdict, accepted, ◌then◌, refuse, lowest}
 use Rattle.model.specs.Refusals.{table, table_if}
+use Rattle.model.specs.declared.rule.Rule.{Rule}
+use Rattle.model.specs.declared.rule.Rule.TheVariants.{TableLength}
 
 -- two tests
 pub both : (a b : Bool) → (a && b) ≡ true → (a ≡ true) × (b ≡ true)
@@ -22,12 +24,12 @@ unfolding ◌then◌
 then_passes (Ok tt) b = (λ e. (refl, e), λ e. e.1)
 then_passes (Err x) b = (λ e. (e, cc), λ e. e.0)
 
-pub refuse_passes : (r k : ℕ) (t : Bool) → (refuse r k t ≡ accepted) ↔ (t ≡ false)
+pub refuse_passes : (r : Rule) (k : ℕ) (t : Bool) → (refuse r k t ≡ accepted) ↔ (t ≡ false)
 unfolding refuse
 refuse_passes r k true = (λ e. cc, λ e. cc)
 refuse_passes r k false = (λ e. refl, λ e. refl)
 
-pub lowest_passes : (r : ℕ) (place : ℕ → ℕ) (test : ℕ → Bool) (k c : ℕ) → lowest r place test k c ≡ accepted → (i : ℕ) → k ≤ i → i < k + c → test i ≡ false
+pub lowest_passes : (r : Rule) (place : ℕ → ℕ) (test : ℕ → Bool) (k c : ℕ) → lowest r place test k c ≡ accepted → (i : ℕ) → k ≤ i → i < k + c → test i ≡ false
 unfolding lowest
 lowest_passes r place test k zero e i a b = absurd (omega arith)
 lowest_passes r place test k (suc c) e i a b = go (λ f x y. lowest_passes r place test (suc k) c f i x y) (simp (then_passes, refuse_passes) at e) (ℕ_discrete k i)
@@ -55,7 +57,7 @@ eqb_fails a b = (eqb-false a b, ne_eqb a b)
 -- a table that counts has its length
 pub table_if_exact : (counts : Bool) (t have need : ℕ) → (table_if counts t have need ≡ accepted) ↔ (counts ≡ true → have ≡ need)
 unfolding table_if refuse
-table_if_exact true t have need = (λ e _. eqb-true have need (not-false (eqb have need) ((refuse_passes 15 t (not (eqb have need))).0 e)), λ h. simp (eq-eqb have need (h refl)))
+table_if_exact true t have need = (λ e _. eqb-true have need (not-false (eqb have need) ((refuse_passes TableLength t (not (eqb have need))).0 e)), λ h. simp (eq-eqb have need (h refl)))
 table_if_exact false t have need = (λ _ c. cc, λ _. refl)
 
 pub table_exact : (t have need : ℕ) → (table t have need ≡ accepted) ↔ (have ≡ need)

@@ -20,6 +20,7 @@ use Rattle.model.specs.Objectives.{time_weights}
 use Rattle.model.specs.Conic.{units}
 use Rattle.model.specs.Meaning.{◌≼◌}
 use Rattle.model.specs.declared.Objective.TheVariants.{Time}
+use Rattle.model.specs.declared.rule.Rule.TheVariants.{GridNotFinite, GridNotRising}
 use Rattle.model.proofs.All.{All}
 use Rattle.model.proofs.Sizes.{Sizes}
 use Rattle.model.proofs.Passes.{both, then_passes, refuse_passes, lowest_passes}
@@ -49,17 +50,17 @@ module _ (p : Problem) (ok : refusal p ≡ accepted) where
   unfolding refusal
   later = ((then_passes (boundary_refusal p.boundary) _).0 ok).1
 
-  grid_passes : (lowest 6 itself (λ k. not (finite (at q.grid k))) 0 (length q.grid) ≡ accepted) × (lowest 7 itself (λ k. not (lt (at q.grid (k - 1)) (at q.grid k))) 1 (length q.grid - 1) ≡ accepted)
+  grid_passes : (lowest GridNotFinite itself (λ k. not (finite (at q.grid k))) 0 (length q.grid) ≡ accepted) × (lowest GridNotRising itself (λ k. not (lt (at q.grid (k - 1)) (at q.grid k))) 1 (length q.grid - 1) ≡ accepted)
   unfolding grid_refusal
   grid_passes = (simp (then_passes, refuse_passes) at ((then_passes (grid_refusal q.grid) _).0 later).0).1.1
 
   grid_finite : (k : ℕ) → k ≤ n q → Sizes q → finite (s q k) ≡ true
-  grid_finite k h l = not-false _ (lowest_passes 6 itself _ 0 (length q.grid) grid_passes.0 k (omega arith) (omega arith))
+  grid_finite k h l = not-false _ (lowest_passes GridNotFinite itself _ 0 (length q.grid) grid_passes.0 k (omega arith) (omega arith))
 
   grid_rises : (k : ℕ) → k < n q → lt (s q k) (s q (k + 1)) ≡ true
   grid_rises k h =
       let e : k + 1 - 1 ≡ k = omega arith in
-      rw e at (not-false (lt (at q.grid (k + 1 - 1)) (at q.grid (k + 1))) (lowest_passes 7 itself (λ k. not (lt (at q.grid (k - 1)) (at q.grid k))) 1 (length q.grid - 1) grid_passes.1 (k + 1) (omega arith) (omega arith)))
+      rw e at (not-false (lt (at q.grid (k + 1 - 1)) (at q.grid (k + 1))) (lowest_passes GridNotRising itself (λ k. not (lt (at q.grid (k - 1)) (at q.grid k))) 1 (length q.grid - 1) grid_passes.1 (k + 1) (omega arith) (omega arith)))
 
   module _ (l : Sizes q) (doubles : Doubles q.grid) where
     double : (k : ℕ) → Double (s q k)

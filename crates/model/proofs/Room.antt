@@ -15,6 +15,8 @@ use Rattle.model.specs.Problem.{Problem, objectives}
 use Rattle.model.specs.Owners.{index_places}
 use Rattle.model.specs.Answers.{Buffers, lengths, room_refusal, index_refusal}
 use Rattle.model.specs.declared.FourCounts.{FourCounts}
+use Rattle.model.specs.declared.rule.Rule.{Rule}
+use Rattle.model.specs.declared.rule.Rule.TheVariants.{BufferTooShort, IndexTooShort}
 use Rattle.model.proofs.Passes.{refuse_passes}
 
 pub then_accepted : (v : Verdict) → (v then accepted) ≡ v
@@ -53,7 +55,7 @@ module _ (test : ℕ → Bool) where
   look k zero = none (λ i a b. absurd (omega arith))
   look k (suc c) = look_step k c (test k) refl (look (suc k) c)
 
-  module _ (r : ℕ) (place : ℕ → ℕ) where
+  module _ (r : Rule) (place : ℕ → ℕ) where
     pub lowest_none : (k c : ℕ) → ((i : ℕ) → k ≤ i → i < k + c → test i ≡ false) → lowest r place test k c ≡ accepted
     unfolding lowest refuse ◌then◌
     lowest_none k zero h = refl
@@ -94,17 +96,17 @@ module _ (t : FourCounts) (b : Buffers) where
   abbrev missing : ℕ → Bool
   missing i = ltb (get_or (lengths b) i 0) (get_or (needs t) i 0)
 
-  room_lowest : room_refusal t (lengths b) ≡ lowest 19 itself missing 0 7
+  room_lowest : room_refusal t (lengths b) ≡ lowest BufferTooShort itself missing 0 7
   unfolding room_refusal lowest
   room_lowest = simp then_accepted
 
   pub room_enough : Enough t b → room_refusal t (lengths b) ≡ accepted
-  room_enough h = rw room_lowest (lowest_none missing 19 itself 0 7 (λ i _ lt. le-ltb (get_or (lengths b) i 0) (get_or (needs t) i 0) (h i lt)))
+  room_enough h = rw room_lowest (lowest_none missing BufferTooShort itself 0 7 (λ i _ lt. le-ltb (get_or (lengths b) i 0) (get_or (needs t) i 0) (h i lt)))
 
-  pub room_short : (i : ℕ) → Short t b i → room_refusal t (lengths b) ≡ refused 19 i
+  pub room_short : (i : ℕ) → Short t b i → room_refusal t (lengths b) ≡ refused BufferTooShort i
   room_short i s =
       rw room_lowest
-      (lowest_first missing 19 itself 0 7 i s.index
+      (lowest_first missing BufferTooShort itself 0 7 i s.index
       (record {
         above = omega arith;
         passes = lt-ltb (get_or (lengths b) i 0) (get_or (needs t) i 0) s.short;
@@ -138,12 +140,12 @@ abbrev pub HasIndex : Problem → Buffers → Type 0
 HasIndex p b = index_places (length (objectives p)) ≤ length b.index
 
 module _ (p : Problem) (b : Buffers) where
-  pub index_short : length b.index < index_places (length (objectives p)) → index_refusal p (length b.index) ≡ refused 28 0
+  pub index_short : length b.index < index_places (length (objectives p)) → index_refusal p (length b.index) ≡ refused IndexTooShort 0
   unfolding index_refusal refuse
   index_short h = rw (lt-ltb (length b.index) (index_places (length (objectives p))) h)
 
   pub index_passes : (index_refusal p (length b.index) ≡ accepted) ↔ HasIndex p b
   unfolding index_refusal
   index_passes =
-      let t = refuse_passes 28 0 (ltb (length b.index) (index_places (length (objectives p)))) in
+      let t = refuse_passes IndexTooShort 0 (ltb (length b.index) (index_places (length (objectives p)))) in
       (λ e. ltb-false (length b.index) (index_places (length (objectives p))) (t.0 e), λ h. t.1 (le-ltb (length b.index) (index_places (length (objectives p))) h))

@@ -24,6 +24,7 @@ use Rattle.model.specs.Used.{Same, Inner, SameLimits, SameTorque, SameFor, Agree
 use Rattle.model.specs.declared.Bounds.{Bounds}
 use Rattle.model.specs.declared.Objective.{Objective}
 use Rattle.model.specs.declared.Objective.TheVariants.{Time, ThermalEnergy, TotalVariationTorque, Linear}
+use Rattle.model.specs.declared.rule.Rule.TheVariants.{NumberNotFinite, IndexTooShort}
 use Rattle.model.proofs.Counted.{same_counts, counted}
 use Rattle.model.proofs.Sizes.{Sizes}
 use Rattle.model.proofs.Usable.{usable, usable_sizes}
@@ -97,8 +98,8 @@ module _ (p p' : Problem) (u : Agree p (merged p p')) where
     verdict_same have long =
         λ i. refusal_same p p' u i
         then room_refusal (counts_same i) have
-        then refuse 28 0 (ltb long (index_places (length (u.chosen i))))
-        then refuse 20 0 (not (all_finite (map (λ e. e.value) (entries_same i)) && all_finite (right_same i) && all_finite (cost_same i)))
+        then refuse IndexTooShort 0 (ltb long (index_places (length (u.chosen i))))
+        then refuse NumberNotFinite 0 (not (all_finite (map (λ e. e.value) (entries_same i)) && all_finite (right_same i) && all_finite (cost_same i)))
 
     result_same : (v : Verdict) (b : Buffers) → result v p b ≡ result v r b
     unfolding result outcome

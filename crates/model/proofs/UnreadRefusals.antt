@@ -20,6 +20,8 @@ use Rattle.model.specs.declared.Boundary.{Boundary}
 use Rattle.model.specs.declared.Bounds.{Bounds}
 use Rattle.model.specs.declared.Objective.{Objective}
 use Rattle.model.specs.declared.Objective.TheVariants.{Time, ThermalEnergy, TotalVariationTorque, Linear}
+use Rattle.model.specs.declared.rule.Rule.{Rule}
+use Rattle.model.specs.declared.rule.Rule.TheVariants.{DimensionOutOfRange, NoObjective, TooManyObjectives, WeightUnfit, ListUnfit, ScaleUnfit, TableLength, BoundUnusable, BoundsCrossed}
 use Rattle.model.proofs.Passes.{passing}
 
 -- a problem with what is shared outright from elsewhere: boundary, path, count, d, tables 0 and 1
@@ -58,7 +60,7 @@ unfolding ◌then◌
 then_ext (Ok tt) h = h refl
 then_ext (Err e) h = refl
 
-lowest_ext : (r : ℕ) (place : ℕ → ℕ) (s t : ℕ → Bool) (k c : ℕ) → ((i : ℕ) → k ≤ i → i < k + c → s i ≡ t i) → lowest r place s k c ≡ lowest r place t k c
+lowest_ext : (r : Rule) (place : ℕ → ℕ) (s t : ℕ → Bool) (k c : ℕ) → ((i : ℕ) → k ≤ i → i < k + c → s i ≡ t i) → lowest r place s k c ≡ lowest r place t k c
 unfolding lowest
 lowest_ext r place s t k zero h = refl
 lowest_ext r place s t k (suc c) h =
@@ -66,7 +68,7 @@ lowest_ext r place s t k (suc c) h =
 
 table_if_same : (counts : Bool) (t have have' need : ℕ) → (counts ≡ true → have ≡ have') → table_if counts t have need ≡ table_if counts t have' need
 unfolding table_if
-table_if_same true t have have' need h = ap (λ x. refuse 15 t (not (eqb x need))) (h refl)
+table_if_same true t have have' need h = ap (λ x. refuse TableLength t (not (eqb x need))) (h refl)
 table_if_same false t have have' need h = refl
 
 -- 12: a list that runs past the pool has a shorter part
@@ -80,7 +82,7 @@ past pool start len pos = simp (length-take, length-drop) (go (dec_lt (length po
 module _ (pool pool' : List Float) where
   list_same : (i long start len : ℕ) → 0 < long → length (part pool start len) ≡ length (part pool' start len) → list_refusal pool i long start len ≡ list_refusal pool' i long start len
   unfolding list_refusal
-  list_same i long start len pos same = ap (refuse 12 i) (go (eqb len long) refl)
+  list_same i long start len pos same = ap (refuse ListUnfit i) (go (eqb len long) refl)
     where
       go : (t : Bool) → eqb len long ≡ t → (not t || ltb (length pool) (start + len)) ≡ (not t || ltb (length pool') (start + len))
       go false e = refl
@@ -89,7 +91,7 @@ module _ (pool pool' : List Float) where
   scales_same : (d i start len : ℕ) → 0 < d → part pool start len ≡ part pool' start len → scales_refusal pool d i start len ≡ scales_refusal pool' d i start len
   unfolding scales_refusal
   scales_same d i start len pos same =
-      ap₂ ◌then◌ (list_same i d start len pos (ap length same)) (ap (λ l. lowest 13 (λ j. i) (λ j. unfit (at l j)) 0 len) same)
+      ap₂ ◌then◌ (list_same i d start len pos (ap length same)) (ap (λ l. lowest ScaleUnfit (λ j. i) (λ j. unfit (at l j)) 0 len) same)
 
 either : {X : Type 0} (a b : Bool) → (a ≡ true → X) → (b ≡ true → X) → (a || b) ≡ true → X
 either true b f g e = f refl
@@ -118,7 +120,7 @@ module _ (p p' : Problem) where
   unfolding objectives_refusal
   objectives_same i [] pos h = refl
   objectives_same i (o ∷ os) pos h =
-      ap₂ (λ v w. refuse 11 i (unfit (weight o)) then v then w) (lists_same i o pos (h 0)) (objectives_same (suc i) os pos (λ i. h (suc i)))
+      ap₂ (λ v w. refuse WeightUnfit i (unfit (weight o)) then v then w) (lists_same i o pos (h 0)) (objectives_same (suc i) os pos (λ i. h (suc i)))
 
   abbrev TorqueLong : Type 0
   TorqueLong = (length p.torque.a ≡ length p'.torque.a) × (length p.torque.b ≡ length p'.torque.b) × (length p.torque.g ≡ length p'.torque.g)
@@ -130,9 +132,9 @@ module _ (p p' : Problem) where
     setup_same : setup_refusal p.torque.d p.count p.slots (n p.path + 1) p.pool ≡ setup_refusal p.torque.d p.count p'.slots (n p.path + 1) p'.pool
     unfolding setup_refusal
     setup_same =
-        then_ext (refuse 8 0 (eqb p.torque.d 0 || ltb 32 p.torque.d)) (λ e.
+        then_ext (refuse DimensionOutOfRange 0 (eqb p.torque.d 0 || ltb 32 p.torque.d)) (λ e.
         let h = simp passing at e in
-        ap (λ v. refuse 9 0 (eqb p.count 0) then refuse 10 0 (ltb 16 p.count) then v)
+        ap (λ v. refuse NoObjective 0 (eqb p.count 0) then refuse TooManyObjectives 0 (ltb 16 p.count) then v)
         (objectives_same 0 (objectives p) (omega arith) u.lists ∙ ap (objectives_refusal p'.pool p.torque.d (n p.path + 1) 0) u.chosen))
 
     long : {used : ℕ → Type 0} → SameTorque p.path used p.torque r.torque → TorqueLong
@@ -163,10 +165,10 @@ module _ (p p' : Problem) where
     bounds_same : bounds_refusal p.path p.limits ≡ bounds_refusal p.path p'.limits
     unfolding bounds_refusal unusable_end crossed m
     bounds_same =
-        ap₂ ◌then◌ (ap (refuse 17 0) (end_same unusable_end p.path.N0 refl u.limits.start))
-        (ap₂ ◌then◌ (ap (refuse 17 1) (end_same unusable_end p.path.N1 refl u.limits.end))
-        (ap₂ ◌then◌ (lowest_ext 17 _ _ _ _ _ (λ k a b. ap unusable (u.limits.amax.equal k (omega arith, omega arith))))
-        (ap₂ ◌then◌ (ap (refuse 18 0) (end_same crossed p.path.N0 refl u.limits.start)) (ap (refuse 18 1) (end_same crossed p.path.N1 refl u.limits.end)))))
+        ap₂ ◌then◌ (ap (refuse BoundUnusable 0) (end_same unusable_end p.path.N0 refl u.limits.start))
+        (ap₂ ◌then◌ (ap (refuse BoundUnusable 1) (end_same unusable_end p.path.N1 refl u.limits.end))
+        (ap₂ ◌then◌ (lowest_ext BoundUnusable _ _ _ _ _ (λ k a b. ap unusable (u.limits.amax.equal k (omega arith, omega arith))))
+        (ap₂ ◌then◌ (ap (refuse BoundsCrossed 0) (end_same crossed p.path.N0 refl u.limits.start)) (ap (refuse BoundsCrossed 1) (end_same crossed p.path.N1 refl u.limits.end)))))
 
     pub refusal_same : refusal p ≡ refusal r
     unfolding refusal

@@ -17,16 +17,17 @@ use Rattle.model.specs.Verdicts.{accepted, lowest, itself}
 use Rattle.model.specs.Refusals.{refusal, grid_refusal, setup_refusal, tables_refusal, objectives_refusal, lists_refusal, scales_refusal, list_refusal}
 use Rattle.model.specs.declared.Objective.{Objective}
 use Rattle.model.specs.declared.Objective.TheVariants.{Time, ThermalEnergy, TotalVariationTorque, Linear}
+use Rattle.model.specs.declared.rule.Rule.TheVariants.{TooManyRows}
 use Rattle.model.proofs.All.{All}
 use Rattle.model.proofs.Sizes.{Sizes, sizes}
 use Rattle.model.proofs.Passes.{passing, then_passes, refuse_passes, lowest_passes}
 
 -- numbers past the end are 0
-few : (b : ℕ) (l : List ℕ) (k : ℕ) → length l ≡ k → lowest 16 itself (λ i. ltb b (get_or l i 0)) 0 k ≡ accepted → (i : ℕ) → get_or l i 0 ≤ b
+few : (b : ℕ) (l : List ℕ) (k : ℕ) → length l ≡ k → lowest TooManyRows itself (λ i. ltb b (get_or l i 0)) 0 k ≡ accepted → (i : ℕ) → get_or l i 0 ≤ b
 few b l k e h i = go (dec_lt i k)
   where
     go : Dec (i < k) → get_or l i 0 ≤ b
-    go (yes lt) = ltb-false b (get_or l i 0) (lowest_passes 16 itself (λ i. ltb b (get_or l i 0)) 0 k h i (omega arith) (omega arith))
+    go (yes lt) = ltb-false b (get_or l i 0) (lowest_passes TooManyRows itself (λ i. ltb b (get_or l i 0)) 0 k h i (omega arith) (omega arith))
     go (no ge) = let z = get_or-eq_default l 0 {n = i} (omega arith) in omega arith
 
 module _ (p : Problem) where

@@ -2,11 +2,13 @@
 use Rattle.std.specs.Prelude.{◌&&◌, ◌∷◌, ◌++◌, Ok, Err}
 use Rattle.model.specs.Base.{ℕ, Bool, not, List, [], length, get_or, drop, ltb, Float, FourCounts}
 use Rattle.model.specs.Problem.{Problem, objectives}
+use Rattle.model.specs.Rules.{rule_number}
 use Rattle.model.specs.Verdicts.{Verdict, Answer, ◌then◌, refuse}
 use Rattle.model.specs.Refusals.{refusal}
 use Rattle.model.specs.Assembled.{row_numbers, column_numbers, values, right_side, cone_kinds, cone_dimensions, cost, all_finite}
 use Rattle.model.specs.Counts.{counts}
 use Rattle.model.specs.Owners.{index, index_places}
+use Rattle.model.specs.declared.rule.Rule.TheVariants.{BufferTooShort, NumberNotFinite, IndexTooShort}
 
 -- "When an answer is an enum, a definition sets out this paper's number and values for each of its cases":
 -- a refusal's number and its place, or 0 and the four counts.
@@ -16,7 +18,7 @@ pub record Told : Type 0 where
 
 abbrev pub told : Answer → Told
 told (Ok t) = record { number = 0; values = t.entries ∷ t.rows ∷ t.cones ∷ t.columns ∷ [] }
-told (Err e) = record { number = e.number; values = e.place ∷ [] }
+told (Err e) = record { number = rule_number e.rule; values = e.place ∷ [] }
 
 unfoldable pub outcome : Verdict → FourCounts → Told
 outcome (Ok tt) t = told (Ok t)
@@ -56,27 +58,27 @@ lengths b =
 -- 19: "Buffers 0 to 2 need a place per entry, 3 per row, 4 and 5 per cone, 6 per column."
 unfoldable pub room_refusal : FourCounts → List ℕ → Verdict
 room_refusal t have =
-    refuse 19 0 (short 0 t.entries)
-    then refuse 19 1 (short 1 t.entries)
-    then refuse 19 2 (short 2 t.entries)
-    then refuse 19 3 (short 3 t.rows)
-    then refuse 19 4 (short 4 t.cones)
-    then refuse 19 5 (short 5 t.cones)
-    then refuse 19 6 (short 6 t.columns)
+    refuse BufferTooShort 0 (short 0 t.entries)
+    then refuse BufferTooShort 1 (short 1 t.entries)
+    then refuse BufferTooShort 2 (short 2 t.entries)
+    then refuse BufferTooShort 3 (short 3 t.rows)
+    then refuse BufferTooShort 4 (short 4 t.cones)
+    then refuse BufferTooShort 5 (short 5 t.cones)
+    then refuse BufferTooShort 6 (short 6 t.columns)
   where
     short : ℕ → ℕ → Bool
     short i need = ltb (get_or have i 0) need
 
 -- 28: "An index buffer too short, by one place or more"
 unfoldable pub index_refusal : Problem → ℕ → Verdict
-index_refusal p have = refuse 28 0 (ltb have (index_places (length (objectives p))))
+index_refusal p have = refuse IndexTooShort 0 (ltb have (index_places (length (objectives p))))
 
 -- 20: "a number to be written to values, right side or cost is not finite"
 abbrev pub every_finite : Problem → Bool
 every_finite p = all_finite (values p) && all_finite (right_side p) && all_finite (cost p)
 
 unfoldable pub finite_refusal : Problem → Verdict
-finite_refusal p = refuse 20 0 (not (every_finite p))
+finite_refusal p = refuse NumberNotFinite 0 (not (every_finite p))
 
 -- "Acceptance writes from index 0 and changes nothing past the counts it reports."
 abbrev pub onto : {A : Type 0} → List A → List A → List A

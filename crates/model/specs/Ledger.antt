@@ -7,6 +7,7 @@ use Rattle.model.specs.Verdicts.{Answer, refused}
 use Rattle.model.specs.Counts.{four_counts, counts}
 use Rattle.model.specs.Owners.{index_places}
 use Rattle.model.specs.Answers.{Told, told, sizing, assembly, Buffers}
+use Rattle.model.specs.declared.rule.Rule.TheVariants.{BoundaryNegative, TooFewStations, GridNotRising, WeightUnfit, NoMovingInterval}
 
 pub data Name : Type 0 where
   A B C D E F G H I J K L M N : Name
@@ -110,15 +111,15 @@ table =
     says A (Ok (four_counts 32 19 6 8))
     ∷ says B (Ok (four_counts 37 23 8 9))
     ∷ says C (Ok (four_counts 37 27 8 12))
-    ∷ says D (refused 14 0)
+    ∷ says D (refused NoMovingInterval 0)
     ∷ says E (Ok (four_counts 43 15 3 8))
     ∷ says F (Ok (four_counts 33 18 5 8))
     ∷ says G (Ok (four_counts 58 33 8 13))
     ∷ says H (Ok (four_counts 23 11 2 6))
     ∷ says I (Ok (four_counts 33 20 6 8))
-    ∷ says J (refused 11 0)
-    ∷ says K (refused 2 0)
-    ∷ says L (refused 7 2)
+    ∷ says J (refused WeightUnfit 0)
+    ∷ says K (refused BoundaryNegative 0)
+    ∷ says L (refused GridNotRising 2)
     ∷ says M (Ok (four_counts 44 23 6 8))
-    ∷ says N (refused 4 0)
+    ∷ says N (refused TooFewStations 0)
     ∷ []

@@ -2,6 +2,7 @@ pub mod Base
 pub mod Numbers
 pub mod Lists
 pub mod Problem
+pub mod Rules
 pub mod Verdicts
 pub mod Refusals
 pub mod Program

@@ -5,6 +5,7 @@ use Rattle.model.specs.Numbers.{at, finite, unusable, negative, is_zero, unfit, 
 use Rattle.model.specs.Lists.{total, part}
 use Rattle.model.specs.Problem.{Problem, Path, Limits, objectives, n, m, weight, some, is_thermal, is_torque, is_linear}
 use Rattle.model.specs.Verdicts.{Verdict, accepted, ◌then◌, refuse, lowest, itself}
+use Rattle.model.specs.declared.rule.Rule.TheVariants.{BoundaryNotFinite, BoundaryNegative, BackwardAtRest, TooFewStations, TooManyStations, GridNotFinite, GridNotRising, DimensionOutOfRange, NoObjective, TooManyObjectives, WeightUnfit, ListUnfit, ScaleUnfit, NoMovingInterval, TableLength, TooManyRows, BoundUnusable, BoundsCrossed}
 
 -- the most stations, joints, objectives, and rows of a station in a table: "5 more than 4,097", "8 d is outside 1 to 32", "10 more than 16", "16 a row count is above 256"
 abbrev pub most_stations : ℕ
@@ -22,14 +23,14 @@ most_rows = 256
 -- "1 a boundary number is not finite; place 0 to 3 for initial a, terminal a, initial b, terminal b."
 abbrev pub first_refusal : Boundary → Verdict
 first_refusal b =
-    (refuse 1 0 (not (finite b.a0)) then refuse 1 1 (not (finite b.a1)))
-    then refuse 1 2 (not (finite b.b0)) then refuse 1 3 (not (finite b.b1))
+    (refuse BoundaryNotFinite 0 (not (finite b.a0)) then refuse BoundaryNotFinite 1 (not (finite b.a1)))
+    then refuse BoundaryNotFinite 2 (not (finite b.b0)) then refuse BoundaryNotFinite 3 (not (finite b.b1))
 
 -- "2 a boundary a is below 0; place 0 or 1." "3 initial a is zero with b below 0 (place 0), or terminal a is zero with b above 0 (place 1)."
 abbrev pub signs_refusal : Boundary → Verdict
 signs_refusal b =
-    (refuse 2 0 (negative b.a0) then refuse 2 1 (negative b.a1))
-    then refuse 3 0 (is_zero b.a0 && negative b.b0) then refuse 3 1 (is_zero b.a1 && lt +0 b.b1)
+    (refuse BoundaryNegative 0 (negative b.a0) then refuse BoundaryNegative 1 (negative b.a1))
+    then refuse BackwardAtRest 0 (is_zero b.a0 && negative b.b0) then refuse BackwardAtRest 1 (is_zero b.a1 && lt +0 b.b1)
 
 abbrev pub boundary_refusal : Boundary → Verdict
 boundary_refusal b = first_refusal b then signs_refusal b
@@ -37,20 +38,20 @@ boundary_refusal b = first_refusal b then signs_refusal b
 -- "4 fewer than 3 stations. 5 more than 4,097." "6 a grid number is not finite", "7 a grid number is not above the one before; place is the first such station"
 unfoldable pub grid_refusal : List Float → Verdict
 grid_refusal g =
-    refuse 4 0 (ltb (length g) 3)
-    then refuse 5 0 (ltb most_stations (length g))
-    then lowest 6 itself (λ k. not (finite (at g k))) 0 (length g)
-    then lowest 7 itself (λ k. not (lt (at g (k - 1)) (at g k))) 1 (length g - 1)
+    refuse TooFewStations 0 (ltb (length g) 3)
+    then refuse TooManyStations 0 (ltb most_stations (length g))
+    then lowest GridNotFinite itself (λ k. not (finite (at g k))) 0 (length g)
+    then lowest GridNotRising itself (λ k. not (lt (at g (k - 1)) (at g k))) 1 (length g - 1)
 
 -- "12 a list is not d long (scales) or n+1 long (alpha, beta), or runs past the pool", place the objective's index i
 unfoldable pub list_refusal : List Float → ℕ → ℕ → ℕ → ℕ → Verdict
-list_refusal pool i long start len = refuse 12 i (not (eqb len long) || ltb (length pool) (start + len))
+list_refusal pool i long start len = refuse ListUnfit i (not (eqb len long) || ltb (length pool) (start + len))
 
 -- "13 a scale is NaN, infinite or negative"
 unfoldable pub scales_refusal : List Float → ℕ → ℕ → ℕ → ℕ → Verdict
 scales_refusal pool d i start len =
     list_refusal pool i d start len
-    then lowest 13 (λ j. i) (λ j. unfit (at (part pool start len) j)) 0 len
+    then lowest ScaleUnfit (λ j. i) (λ j. unfit (at (part pool start len) j)) 0 len
 
 unfoldable pub lists_refusal : List Float → ℕ → ℕ → ℕ → Objective → Verdict
 lists_refusal pool d stations i (Time w) = accepted
@@ -62,23 +63,23 @@ lists_refusal pool d stations i (Linear w alpha alpha_len beta beta_len) = list_
 unfoldable pub objectives_refusal : List Float → ℕ → ℕ → ℕ → List Objective → Verdict
 objectives_refusal pool d stations i [] = accepted
 objectives_refusal pool d stations i (o ∷ os) =
-    refuse 11 i (unfit (weight o)) then lists_refusal pool d stations i o then objectives_refusal pool d stations (suc i) os
+    refuse WeightUnfit i (unfit (weight o)) then lists_refusal pool d stations i o then objectives_refusal pool d stations (suc i) os
 
 -- "8 d is outside 1 to 32. 9 no objective. 10 more than 16."
 unfoldable pub setup_refusal : ℕ → ℕ → List Objective → ℕ → List Float → Verdict
 setup_refusal d count slots stations pool =
-    refuse 8 0 (eqb d 0 || ltb most_joints d)
-    then refuse 9 0 (eqb count 0)
-    then refuse 10 0 (ltb most_objectives count)
+    refuse DimensionOutOfRange 0 (eqb d 0 || ltb most_joints d)
+    then refuse NoObjective 0 (eqb count 0)
+    then refuse TooManyObjectives 0 (ltb most_objectives count)
     then objectives_refusal pool d stations 0 (take count slots)
 
 -- "15 a table that counts has a wrong length; place is its number": table t is of length `have` and has to be of length `need`
 unfoldable pub table : ℕ → ℕ → ℕ → Verdict
-table t have need = refuse 15 t (not (eqb have need))
+table t have need = refuse TableLength t (not (eqb have need))
 
 -- "A table that doesn't count may have any length."
 unfoldable pub table_if : Bool → ℕ → ℕ → ℕ → Verdict
-table_if counts t have need = refuse 15 t (counts && not (eqb have need))
+table_if counts t have need = refuse TableLength t (counts && not (eqb have need))
 
 -- "14 N0 + N1 is n or more." "Tables 0 and 1 are tested first, then refusal 16, then tables 2 to 15." "16 a row count is above 256; place is the station, table 0 before
 -- table 1." "Table 10 counts only with a ThermalEnergy objective, 11 to 13 only with that or TotalVariationTorque, 14 and 15 only with Linear."
@@ -89,11 +90,11 @@ tables_refusal p =
     let thermals = some is_thermal (objectives p) in
     let torques = thermals || some is_torque (objectives p) in
     let linears = some is_linear (objectives p) in
-    refuse 14 0 (leb (n p.path) (p.path.N0 + p.path.N1))
+    refuse NoMovingInterval 0 (leb (n p.path) (p.path.N0 + p.path.N1))
     then table 0 (length p.acc.counts) (n p.path + 1)
     then table 1 (length p.jerk.counts) (n p.path + 1)
-    then lowest 16 itself (λ k. ltb most_rows (get_or p.acc.counts k 0)) 0 (n p.path + 1)
-    then lowest 16 itself (λ k. ltb most_rows (get_or p.jerk.counts k 0)) 0 (n p.path + 1)
+    then lowest TooManyRows itself (λ k. ltb most_rows (get_or p.acc.counts k 0)) 0 (n p.path + 1)
+    then lowest TooManyRows itself (λ k. ltb most_rows (get_or p.jerk.counts k 0)) 0 (n p.path + 1)
     then table 2 (length p.limits.amax) (n p.path + 1)
     then table 3 (length p.acc.a) acc
     then table 4 (length p.acc.b) acc
@@ -120,11 +121,11 @@ crossed count b = ltb 0 count && lt b.maximum b.minimum
 -- "place 0 start, 1 end, 2+k amax of station k"
 unfoldable pub bounds_refusal : Path → Limits → Verdict
 bounds_refusal q l =
-    refuse 17 0 (unusable_end q.N0 l.start)
-    then refuse 17 1 (unusable_end q.N1 l.end)
-    then lowest 17 (λ k. 2 + k) (λ k. unusable (at l.amax k)) (q.N0 + 1) (m q - 1)
-    then refuse 18 0 (crossed q.N0 l.start)
-    then refuse 18 1 (crossed q.N1 l.end)
+    refuse BoundUnusable 0 (unusable_end q.N0 l.start)
+    then refuse BoundUnusable 1 (unusable_end q.N1 l.end)
+    then lowest BoundUnusable (λ k. 2 + k) (λ k. unusable (at l.amax k)) (q.N0 + 1) (m q - 1)
+    then refuse BoundsCrossed 0 (crossed q.N0 l.start)
+    then refuse BoundsCrossed 1 (crossed q.N1 l.end)
 
 -- 1 to 18
 unfoldable pub refusal : Problem → Verdict

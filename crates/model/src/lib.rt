@@ -2,6 +2,10 @@
 
 #![tactic(auto)]
 
+mod rule;
+
+pub use rule::Rule;
+
 // Boundary states, in the order of refusal 1: initial a, terminal a, initial b, terminal b.
 #[repr(C)]
 #[derive(Clone, Copy)]
@@ -100,10 +104,10 @@ pub struct FourCounts {
     pub columns: usize,
 }
 
-// A refusal's number by document 01, and its place.
+// A refusal, and its place.
 #[derive(Clone, Copy, PartialEq, Eq, Debug)]
 pub struct Refusal {
-    pub number: usize,
+    pub rule: Rule,
     pub place: usize,
 }
 
