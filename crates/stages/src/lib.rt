@@ -2,20 +2,19 @@
 
 #![tactic(auto)]
 
-ghost use Rattle.std.specs.Prelude.{◌*◌, ◌+◌, ◌<◌, ◌^◌, ◌≤◌, ℕ, get_or, length, cond, ◌≡◌};
-ghost use Rattle.std.specs.Float.{nan};
+ghost use Rattle.std.specs.Prelude.{◌*◌, ◌+◌, ◌^◌, ◌≤◌, length, cond, ◌≡◌, All};
 ghost use Rattle.model.specs.Problem.{n, some, uses_root};
 ghost use Rattle.model.specs.Program.{nothing};
 ghost use Rattle.model.specs.Standard.{root_stage};
 ghost use Rattle.model.specs.Objectives.{thermal_block, time_block, torque_block};
-ghost use Rattle.model.specs.declared.Objective.TheVariants.{Time};
 ghost use Rattle.buffers.specs.Bounds.{standard_room, root_room, time_room, thermal_room, torque_room};
 ghost use Rattle.buffers.specs.Buffers.{Closed, Builds, FillsCost};
 ghost use Rattle.buffers.specs.Lent.{RoomAll};
 ghost use Rattle.buffers.specs.Paths.{path_of};
 ghost use Rattle.acc_jerk.specs.Tables.{Few};
-ghost use Rattle.linear.specs.Charges.{Fits, ab_cost};
-ghost use Rattle.standard.specs.Block.{standard_cones};
+ghost use Rattle.linear.specs.Parts.{FitsIn, cost_in};
+ghost use Rattle.standard.specs.Input.{cones_of};
+ghost use Rattle.torque.specs.Tables.{tables_of};
 
 use buffers::Path;
 use linear::LinearInput;
@@ -25,8 +24,8 @@ use torque::ScaledTorque;
 
 // The standard rows, modules 2 to 4.
 pub fn standard_rows(t: &mut Tally, out: &mut Buffers, input: StandardInput)
-    requires { STANDARD_REQUIRES }
-    ensures { STANDARD_ENSURES }
+    requires { RoomAll t.old (standard_room (length input.path.grid.now)) × Few input.acceleration.rows.now × Few input.jerk.rows.now }
+    ensures { Closed t.old out.old t.new out.new (cones_of input.entry) (standard_room (length input.entry.path.grid.now)) }
 {
     *t = standard::clarabel_standard_constraint_topp3(*t, out, input);
 }
@@ -41,8 +40,8 @@ pub fn root_stage(t: &mut Tally, out: &mut Buffers, path: Path, objectives: &[Ob
 
 // Linear: the cost of the a and b columns, before all blocks.
 pub fn linear(t: &mut Tally, out: &mut Buffers, input: &LinearInput, objectives: &[Objective])
-    requires { LINEAR_REQUIRES }
-    ensures { LINEAR_ENSURES }
+    requires { (t.old.columns.at + 2 * length input.now.path.grid.now ≤ 2 ^ 32) × All (FitsIn input.now) objectives.now }
+    ensures { FillsCost t.old out.old t.new out.new (cost_in input.now objectives.now) 0 (2 * (n (path_of input.now.path) + 1)) }
 {
     *t = linear::ab_costs(*t, out, input, objectives);
 }
@@ -63,16 +62,16 @@ pub fn thermal_energy(
     thermal: &[f64],
     weight: f64,
 )
-    requires { THERMAL_REQUIRES }
-    ensures { THERMAL_ENSURES }
+    requires { RoomAll t.old (thermal_room (length torque.path.grid.now)) × (length thermal.now ≡ length torque.path.grid.now) }
+    ensures { Builds t.old out.old t.new out.new (thermal_block (path_of torque.entry.path) (tables_of torque.entry) thermal.now weight torque.entry.scales.now t.old.columns.at) (thermal_room (length torque.entry.path.grid.now)) }
 {
     *t = thermal_energy::clarabel_objective_thermal_energy_copp3(*t, out, torque, thermal, weight);
 }
 
 // TotalVariationTorque.
 pub fn total_variation_torque(t: &mut Tally, out: &mut Buffers, torque: ScaledTorque, weight: f64)
-    requires { TV_REQUIRES }
-    ensures { TV_ENSURES }
+    requires { RoomAll t.old (torque_room (length torque.path.grid.now)) }
+    ensures { Builds t.old out.old t.new out.new (torque_block (path_of torque.entry.path) (tables_of torque.entry) weight torque.entry.scales.now t.old.columns.at) (torque_room (length torque.entry.path.grid.now)) }
 {
     *t = tv_torque::clarabel_objective_tv_torque_copp3(*t, out, torque, weight);
 }

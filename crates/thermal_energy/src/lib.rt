@@ -12,7 +12,8 @@ ghost use Rattle.buffers.specs.Bounds.{thermal_cone_room, thermal_room};
 ghost use Rattle.buffers.specs.Buffers.{Columns, Wrote, Closed, Costs, Builds};
 ghost use Rattle.buffers.specs.Lent.{Room, RoomAll};
 ghost use Rattle.buffers.specs.Paths.{path_of};
-ghost use Rattle.thermal_energy.specs.Cones.{first_band, tables_of, joint_columns, cone_with, end_cone, moving_cone, thermal_cones, thermal_costs};
+ghost use Rattle.torque.specs.Tables.{tables_of};
+ghost use Rattle.thermal_energy.specs.Cones.{first_band, joint_columns, cone_with, end_cone, moving_cone, thermal_cones, thermal_costs};
 
 use buffers::{Path, fill, fill_cost, fill_right, weighted};
 use columns::{column_a, column_b, column_xi, length_xi};

@@ -1,11 +1,10 @@
 -- TotalVariationTorque's rows, of what a writer has.
 use Rattle.std.specs.Prelude.{List, [], ◌∷◌, ℕ}
 use Rattle.model.specs.Numbers.{+0}
-use Rattle.model.specs.Problem.{Torque}
 use Rattle.model.specs.Program.{Band, Cone}
 use Rattle.model.specs.Objectives.{end_torque_rows, step_torque_rows, torque_block}
-use Rattle.buffers.specs.Inputs.{torque_of}
 use Rattle.buffers.specs.Paths.{path_of}
+use Rattle.torque.specs.Tables.{tables_of}
 use Rattle.torque.specs.declared.scaled_torque.ScaledTorque.{ScaledTorque}
 
 abbrev pub first_bands : List Cone → List Band
@@ -13,17 +12,13 @@ first_bands [] = []
 first_bands (c ∷ cs) = c.bands
 
 module _ (x : ScaledTorque) where
-  -- tables 11 to 13, with the number of joints
-  abbrev pub tables_of : Torque
-  tables_of = torque_of x.d x.tables.a.now x.tables.b.now x.tables.g.now
-
   -- the bands of the block's one cone
   abbrev pub torque_bands : ℕ → List Band
-  torque_bands c = first_bands (torque_block (path_of x.path) tables_of +0 x.scales.now c).cones
+  torque_bands c = first_bands (torque_block (path_of x.path) (tables_of x) +0 x.scales.now c).cones
 
   -- crate model's rows
   abbrev pub ends_of : ℕ → ℕ → ℕ → ℕ → List Band
-  ends_of = end_torque_rows (path_of x.path) tables_of x.scales.now
+  ends_of = end_torque_rows (path_of x.path) (tables_of x) x.scales.now
 
   abbrev pub steps_of : ℕ → ℕ → ℕ → List Band
-  steps_of = step_torque_rows (path_of x.path) tables_of x.scales.now
+  steps_of = step_torque_rows (path_of x.path) (tables_of x) x.scales.now

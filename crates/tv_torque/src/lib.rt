@@ -12,7 +12,8 @@ ghost use Rattle.buffers.specs.Bounds.{torque_step_room, torque_room};
 ghost use Rattle.buffers.specs.Buffers.{Wrote, Builds};
 ghost use Rattle.buffers.specs.Lent.{Room, RoomAll};
 ghost use Rattle.buffers.specs.Paths.{path_of};
-ghost use Rattle.tv_torque.specs.Rows.{tables_of, torque_bands, ends_of, steps_of};
+ghost use Rattle.torque.specs.Tables.{tables_of};
+ghost use Rattle.tv_torque.specs.Rows.{torque_bands, ends_of, steps_of};
 
 use buffers::row;
 use columns::{column_a, column_b};
