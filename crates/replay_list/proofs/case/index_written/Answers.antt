@@ -7,6 +7,6 @@ pub returns-then-answer-eq0 : goal.returns-then-answer-eq0
 unfolding index_written
 returns-then-answer-eq0 c = simp (eq-eqb _ _ c.if-answer-eq0.true) c.past.ensures
 
-pub returns : goal.returns
+pub returns-else-answer-eq0 : goal.returns-else-answer-eq0
 unfolding index_written
-returns c = simp (ne_eqb _ _ c.if-answer-eq0.false)
+returns-else-answer-eq0 c = simp (ne_eqb _ _ c.if-answer-eq0.false)

@@ -1,16 +1,15 @@
-use Rattle.replay_list.specs.Format.{floats_of}
-use borrow.Author.Tests.{eq-eqb, ne_eqb}
+use native.Mathlib.Omega.{arith}
+use Rattle.replay_list.proofs.Decoding.{no_floats, some_floats}
+use Rattle.replay_list.proofs.input.floats_of.Goals.{in_default-via-then-k-lt1, in_default-via-else-k-lt1+else-k-lt3}
 use Rattle.replay_list.proofs.input.floats_of.Goals as goal
 
--- `replay_list::input::floats_of` meets its contract, by its two tests.
-pub returns-then-k-eq1 : goal.returns-then-k-eq1
-unfolding floats_of
-returns-then-k-eq1 c = simp (eq-eqb _ _ c.if-k-eq1.true)
+-- `replay_list::input::floats_of` meets its contract, by the two numbers of the tables.
+pub returns-in-1 : goal.returns-in-1
+returns-in-1 c = no_floats _ _ _ (omega arith) (omega arith)
 
-pub returns-then-k-eq2 : goal.returns-then-k-eq2
-unfolding floats_of
-returns-then-k-eq2 c = simp (ne_eqb _ _ c.if-k-eq1.false, eq-eqb _ _ c.if-k-eq2.true)
-
-pub returns : goal.returns
-unfolding floats_of
-returns c = simp (ne_eqb _ _ c.if-k-eq1.false, ne_eqb _ _ c.if-k-eq2.false) c.length_at.ensures
+pub returns-in_default : goal.returns-in_default
+returns-in_default c =
+    elim c.in_default.branch [
+      | in_default-via-then-k-lt1 w ↦ some_floats _ _ _ (λ e. omega arith) (λ e. omega arith) c.length_at.ensures
+      | in_default-via-else-k-lt1+else-k-lt3 w ↦ some_floats _ _ _ (λ e. omega arith) (λ e. omega arith) c.length_at.ensures
+    ]

@@ -1,6 +1,6 @@
 use Rattle.replay_list.specs.Format.{places_at, numbers_place, numbers_end, tables_place, records_place, lengths_place, start_of, length_at}
 use Rattle.replay_list.specs.File.{place_after}
-use Rattle.replay_list.proofs.Decoded.{started}
+use Rattle.replay_list.proofs.Decoding.{started}
 use lib.Dec.{lit<}
 use mathlib.Core.List.{List}
 use Rattle.replay_list.specs.declared.input.Places.{Places}

@@ -9,4 +9,4 @@ returns-then-n-i c = simp (le-leb _ _ c.if-n-i.true)
 
 pub returns : goal.returns
 unfolding record_or_none
-returns c = simp (lt-leb _ _ c.if-n-i.false) (rw c.past.ensures at c.record_at.ensures)
+returns c = simp (lt-leb _ _ c.if-n-i.false) (rw (c.past.ensures.0, c.past.ensures.1) at c.record_at.ensures)

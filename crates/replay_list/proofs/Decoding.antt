@@ -9,13 +9,15 @@ use mathlib.Core.List.{List, map}
 use lib.Dec.{lit<, leb, ltb}
 use lib.ListN.{length, get_or}
 use lib.Ieee.{Float}
-use borrow.Author.Tests.{le-leb, lt-leb}
+use borrow.Author.Tests.{le-leb, lt-leb, eq-eqb, ne_eqb}
+use Rattle.std.proofs.Common.{◌⊎◌, inl, inr}
+use Rattle.std.proofs.lemmas.Bool.{cases_eq}
 use Rattle.model.specs.declared.Job.{Job}
 use Rattle.model.specs.Problem.{Problem, problem}
 use Rattle.copp3_c.specs.declared.ObjectiveRecords.{ObjectiveRecords}
 use Rattle.copp3_c.specs.declared.AnswerRecord.{AnswerRecord}
 use Rattle.copp3_c.specs.Exported.{objective_of}
-use Rattle.replay_list.specs.declared.case.Held.{Held}
+use Rattle.replay_list.specs.declared.arrays.Held.{Held}
 use Rattle.replay_list.specs.declared.input.Places.{Places}
 use Rattle.replay_list.specs.File.{place_after, item_at}
 use Rattle.replay_list.specs.Format.{each, part, list_in, count_at, length_at, job_at, floats_of, start_of, starts_at, grid_place, numbers_place, numbers_end, tables_place, places_at, float_number, list_at, table_at, records_from, records_at, problem_with, problem_at, sizing_at, assembly_at, index_written, held_at, case_end}
@@ -78,6 +80,10 @@ unfolding problem_with
 same_lists job records f g t0 t1 u0 u1 e p q =
     same_problem job records g (e 0 (lit< tt)) p q (e 3 (lit< tt)) (e 4 (lit< tt)) (e 5 (lit< tt)) (e 6 (lit< tt)) (e 7 (lit< tt)) (e 8 (lit< tt)) (e 9 (lit< tt)) (e 10 (lit< tt)) (e 11 (lit< tt)) (e 12 (lit< tt)) (e 13 (lit< tt)) (e 14 (lit< tt)) (e 15 (lit< tt)) (e 16 (lit< tt)) (e 17 (lit< tt))
 
+pub records_read : (s : List ℕ) (at : ℕ) (records : ObjectiveRecords) (places : Places) → places ≡ places_at s at → records ≡ records_from s places.records (length_at s at 18) → records ≡ records_at s at
+unfolding places_at
+records_read s at records places p r = rw p at r
+
 module _ (s : List ℕ) (at : ℕ) (job : Job) (records : ObjectiveRecords) (floats : List Float) (numbers starts : List ℕ) (places : Places)
     (job_is : job ≡ job_at s at) (places-are : places ≡ places_at s at) (starts-are : starts ≡ starts_at s at)
     (records-are : records ≡ records_from s places.records (length_at s at 18))
@@ -85,8 +91,7 @@ module _ (s : List ℕ) (at : ℕ) (job : Job) (records : ObjectiveRecords) (flo
     (numbers-are : numbers ≡ each (item_at s places.numbers) 64)
     (all : get_or starts 18 0 ≤ 128) (end : places.end ≤ 64) where
   same_records : records ≡ records_at s at
-  unfolding places_at
-  same_records = rw places-are at records-are
+  same_records = records_read s at records places places-are records-are
 
   same_floats : floats ≡ each (float_number s (grid_place at) (tables_place s at) (start_of s at 1)) 128
   unfolding places_at
@@ -125,12 +130,23 @@ module _ (s : List ℕ) (at : ℕ) (job : Job) (records : ObjectiveRecords) (flo
       (table_at s at 0 (length_at s at 1)) (table_at s at (length_at s at 1) (length_at s at 2)) list_is table_0 table_1
       ∙ rw (job_is, same_records) refl
 
-  pub agreed : sized job records decoded ≡ sizing_at s places.answers → ResultAgrees s places job.count (item_at s places.lengths) (assembled job records decoded (lent_buffers s places.lengths)) → Agrees s at
-  agreed sizing result =
-      record {
-        sizing_is = rw (problem_read, job_is, same_records, places-are) at sizing;
-        assembly_is = rw (problem_read, job_is, same_records, places-are) at result;
-      }
+-- a case agrees where its answers do
+pub agreed : (s : List ℕ) (at : ℕ) (job : Job) (records : ObjectiveRecords) (p : Problem) (places : Places) → job ≡ job_at s at → records ≡ records_at s at → p ≡ problem_at s at → places ≡ places_at s at
+    → sized job records p ≡ sizing_at s places.answers → ResultAgrees s places job.count (item_at s places.lengths) (assembled job records p (lent_buffers s places.lengths)) → Agrees s at
+agreed s at job records p places j r q l sizing result = record { sizing_is = rw (q, j, r, l) at sizing; assembly_is = rw (q, j, r, l) at result }
+
+-- how many floats a list has, by its number
+no_list : (s : List ℕ) (at k : ℕ) → (k ≡ 1) ⊎ (k ≡ 2) → 0 ≡ floats_of s at k
+unfolding floats_of
+no_list s at k (inl e) = simp (eq-eqb k 1 e)
+no_list s at k (inr e) = simp (ne_eqb k 1 (λ f. omega arith), eq-eqb k 2 e)
+
+pub no_floats : (s : List ℕ) (at k : ℕ) → 1 ≤ k → k ≤ 2 → 0 ≡ floats_of s at k
+no_floats s at k h l = no_list s at k (elim (cases_eq k 1) [ inl e ↦ inl e | inr n ↦ inr (omega (arith, n)) ])
+
+pub some_floats : (s : List ℕ) (at k : ℕ) {n : ℕ} → (k ≡ 1 → ⊥) → (k ≡ 2 → ⊥) → n ≡ length_at s at k → n ≡ floats_of s at k
+unfolding floats_of
+some_floats s at k h l e = simp (ne_eqb k 1 h, ne_eqb k 2 l) e
 
 -- where the next case begins, and whether the case is whole
 module _ (s : List ℕ) (at : ℕ) where
