@@ -41,8 +41,8 @@ impl Tally {
         }
     }
 
-    // Writes the group's line, if it has a case. A group's letter is any byte, and so no text that a
-    // Display could write.
+    // Writes the group's line, if it has a case.
+    // Not a Display, which writes text alone: a group's letter may be any byte.
     fn print(self, rt: &impl Print) -> io::Result<()> {
         if self.cases == 0 {
             return Ok(());
@@ -89,7 +89,7 @@ fn whole_case(s: &[u8], at: usize) -> Option<Whole>
     })
 }
 
-// Replays the whole cases of a piece.
+// Replays the whole cases of a piece. Each begins where the last one's own numbers say that it ends.
 fn replay_piece(rt: &impl Print, s: &[u8], before: Tally) -> io::Result<Piece>
     ensures { IfOk result (λ p. p.rest ≤ length s.now) }
 {

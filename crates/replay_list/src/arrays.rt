@@ -33,6 +33,7 @@ pub struct Held {
     pub end: usize,
 }
 
+#[tactic(auto, unfolding(crate::specs::Format::held_at))]
 pub fn held_at(at: usize, counts: AnswerRecord, written: usize) -> Held
     ensures { result ≡ held_at at counts written }
 {

@@ -21,6 +21,7 @@ pub struct Replayed {
     pub next: usize,
 }
 
+#[tactic(auto, unfolding(crate::specs::Format::sizing_at))]
 fn sizing_at(answers: Place<'_>) -> AnswerRecord
     ensures { result ≡ sizing_at answers.entry.list.now answers.entry.at }
 {
@@ -66,6 +67,7 @@ fn same_answer(a: AnswerRecord, b: AnswerRecord) -> bool
 }
 
 // How many places of the index are written: eight for each objective and for the two owners before them.
+#[tactic(auto, unfolding(crate::specs::Format::index_written))]
 fn index_written(count: usize, answer: AnswerRecord) -> usize
     ensures { result ≡ index_written count answer }
 {

@@ -15,6 +15,7 @@ pub struct Place<'a> {
 }
 
 // The place after n items of `width` bytes each.
+#[tactic(auto, unfolding(crate::specs::File::place_after))]
 pub fn past(at: usize, n: usize, width: usize) -> usize
     ensures { result ≡ place_after at n width }
 {

@@ -123,6 +123,7 @@ pub fn places_at(start: Place<'_>, starts: &[usize; 19]) -> Places
 
 // Float i in the list's order: the first ones are the grid's, which begins at one place; the others
 // follow from another on, past the numbers of tables 0 and 1.
+#[tactic(auto, unfolding(crate::specs::Format::float_number))]
 fn float_number(grid: Place<'_>, tables: usize, first: usize, i: usize) -> f64
     ensures { result ≡ float_number grid.entry.list.now grid.entry.at tables first i }
 {
@@ -151,6 +152,7 @@ pub fn read_numbers(from: Place<'_>) -> [u32; 64]
     from_fn(|i| number_at(from, i))
 }
 
+#[tactic(auto, unfolding(crate::specs::Format::record_at))]
 fn record_at(from: Place<'_>) -> ObjectiveRecord
     ensures { result ≡ record_at from.entry.list.now from.entry.at }
 {
@@ -165,6 +167,7 @@ fn record_at(from: Place<'_>) -> ObjectiveRecord
 }
 
 // Record i of the n at a place, and past these Time of weight 0, which nothing looks at.
+#[tactic(auto, unfolding(crate::specs::Format::record_or_none))]
 fn record_or_none(from: Place<'_>, n: usize, i: usize) -> ObjectiveRecord
     ensures { result ≡ record_or_none from.entry.list.now from.entry.at n i }
 {
