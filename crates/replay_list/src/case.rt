@@ -36,6 +36,7 @@ fn sizing_at(answers: Place<'_>) -> AnswerRecord
 }
 
 // The assembly's answer has sizing's counts where it accepts.
+#[tactic(auto, unfolding(crate::specs::Format::assembly_at, crate::specs::Format::sizing_at))]
 fn assembly_at(answers: Place<'_>) -> AnswerRecord
     ensures { result ≡ assembly_at answers.entry.list.now answers.entry.at }
 {
@@ -125,6 +126,7 @@ fn case_agrees(case: &Case<'_>) -> bool
 }
 
 // Where the next case begins, which the list's own numbers say.
+#[tactic(auto, unfolding(crate::specs::Format::case_end))]
 fn end_of(case: &Case<'_>) -> usize
     ensures { result ≡ case_end case.now.start.list.now case.now.start.at }
 {

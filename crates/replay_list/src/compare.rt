@@ -129,6 +129,7 @@ fn has_bits(x: f64, bits: u64) -> bool
 }
 
 // Whether x is what a buffer of n written places, which the list has from a place on, holds at place i.
+#[tactic(auto, unfolding(crate::specs::File::expected))]
 fn is_expected<T: Element>(x: T, from: Place<'_>, n: usize, i: usize) -> bool
     ensures { result ≡ true → T.number x ≡ expected T.read T.WIDTH T.before from.entry.list.now from.entry.at n i }
 {

@@ -22,6 +22,7 @@ pub struct Decoded {
 }
 
 // Elements from a place to another, and none where the second is past the end.
+#[tactic(auto, unfolding(crate::specs::Format::part))]
 fn part<T>(s: &[T], from: usize, to: usize) -> &[T]
     ensures { result.now ≡ part s.now from to }
 {

@@ -43,6 +43,7 @@ pub fn length_at(start: Place<'_>, k: usize) -> usize
     start.past(97, 1).item(k)
 }
 
+#[tactic(auto, unfolding(crate::specs::Format::job_at))]
 pub fn job_at(start: Place<'_>) -> Job
     ensures { result ≡ job_at start.entry.list.now start.entry.at }
 {
@@ -75,6 +76,7 @@ pub fn job_at(start: Place<'_>) -> Job
 }
 
 // How many floats list k has: tables 0 and 1 have none.
+#[tactic(auto, unfolding(crate::specs::Format::floats_of))]
 fn floats_of(start: Place<'_>, k: usize) -> usize
     ensures { result ≡ floats_of start.entry.list.now start.entry.at k }
 {
