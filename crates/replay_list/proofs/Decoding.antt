@@ -9,18 +9,14 @@ use mathlib.Core.List.{List, map}
 use lib.Dec.{lit<, leb, ltb}
 use lib.ListN.{length, get_or}
 use lib.Ieee.{Float}
-use borrow.Author.Tests.{le-leb, lt-leb, eq-eqb, ne_eqb}
-use Rattle.std.proofs.Common.{◌⊎◌, inl, inr}
-use Rattle.std.proofs.lemmas.Bool.{cases_eq}
+use borrow.Author.Tests.{le-leb, lt-leb}
 use Rattle.model.specs.declared.Job.{Job}
 use Rattle.model.specs.Problem.{Problem, problem}
 use Rattle.copp3_c.specs.declared.ObjectiveRecords.{ObjectiveRecords}
-use Rattle.copp3_c.specs.declared.AnswerRecord.{AnswerRecord}
 use Rattle.copp3_c.specs.Exported.{objective_of}
-use Rattle.replay_list.specs.declared.arrays.Held.{Held}
 use Rattle.replay_list.specs.declared.input.Places.{Places}
 use Rattle.replay_list.specs.File.{place_after, item_at}
-use Rattle.replay_list.specs.Format.{each, part, list_in, count_at, length_at, job_at, floats_of, start_of, starts_at, grid_place, numbers_place, numbers_end, tables_place, places_at, float_number, list_at, table_at, records_from, records_at, problem_with, problem_at, sizing_at, assembly_at, index_written, held_at, case_end}
+use Rattle.replay_list.specs.Format.{each, part, list_in, length_at, job_at, floats_of, start_of, starts_at, grid_place, numbers_place, numbers_end, tables_place, places_at, float_number, list_at, table_at, records_from, records_at, problem_with, problem_at, sizing_at, case_end}
 use Rattle.replay_list.specs.Agreement.{sized, assembled, lent_buffers, ResultAgrees, Agrees}
 use Rattle.replay_list.proofs.Laws.{get_d_each, part_each}
 
@@ -135,25 +131,8 @@ pub agreed : (s : List ℕ) (at : ℕ) (job : Job) (records : ObjectiveRecords) 
     → sized job records p ≡ sizing_at s places.answers → ResultAgrees s places job.count (item_at s places.lengths) (assembled job records p (lent_buffers s places.lengths)) → Agrees s at
 agreed s at job records p places j r q l sizing result = record { sizing_is = rw (q, j, r, l) at sizing; assembly_is = rw (q, j, r, l) at result }
 
--- how many floats a list has, by its number
-no_list : (s : List ℕ) (at k : ℕ) → (k ≡ 1) ⊎ (k ≡ 2) → 0 ≡ floats_of s at k
-unfolding floats_of
-no_list s at k (inl e) = simp (eq-eqb k 1 e)
-no_list s at k (inr e) = simp (ne_eqb k 1 (λ f. omega arith), eq-eqb k 2 e)
-
-pub no_floats : (s : List ℕ) (at k : ℕ) → 1 ≤ k → k ≤ 2 → 0 ≡ floats_of s at k
-no_floats s at k h l = no_list s at k (elim (cases_eq k 1) [ inl e ↦ inl e | inr n ↦ inr (omega (arith, n)) ])
-
-pub some_floats : (s : List ℕ) (at k : ℕ) {n : ℕ} → (k ≡ 1 → ⊥) → (k ≡ 2 → ⊥) → n ≡ length_at s at k → n ≡ floats_of s at k
-unfolding floats_of
-some_floats s at k h l e = simp (ne_eqb k 1 h, ne_eqb k 2 l) e
-
--- where the next case begins, and whether the case is whole
+-- whether the case is whole
 module _ (s : List ℕ) (at : ℕ) where
-  pub end_of : (places : Places) (answer : AnswerRecord) (count written : ℕ) (held : Held) → places ≡ places_at s at → answer ≡ assembly_at s places.answers → count ≡ count_at s at 3 → written ≡ index_written count answer → held ≡ held_at places.held answer written → held.end ≡ case_end s at
-  unfolding case_end
-  end_of places answer count written held p a c w h = cc
-
   pub cut_off : (next : ℕ) → next ≡ case_end s at → length s < next → false ≡ leb (case_end s at) (length s)
   cut_off next e h = sym (lt-leb (case_end s at) (length s) (omega arith))
 

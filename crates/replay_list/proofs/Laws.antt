@@ -10,26 +10,19 @@ use lib.ListN.{length, get_or, take, drop, set, replicate, length-take, length-d
 use lib.Seq.{ext_get_or, get_or-take, get_or-drop, get_or-set_same, get_or-set_other}
 use native.Mathlib.Omega.{arith}
 use borrow.Author.Count.{below_more}
-use borrow.Author.Tests.{le-leb, lt-leb, lt-ltb, le-ltb}
+use borrow.Author.Tests.{le-leb, lt-leb, le-ltb}
 use Rattle.std.proofs.Common.{inl, inr}
-use Rattle.std.proofs.lemmas.Bool.{cases_eq, cases_lt}
-use Rattle.std.specs.Option.{unwrap_or}
+use Rattle.std.proofs.lemmas.Bool.{cases_eq}
 use Rattle.std.specs.Prelude.{Option, MatchOption, Some, None}
 use Rattle.std.specs.Int.{w32, w64, from_le_bytes}
 use Rattle.std.specs.Fn.{Called, Mut}
-use denote.Ref.{Bor}
-use Rattle.std.specs.Slice.{IsGetRangeResult}
 use Rattle.std.specs.Array.{IsFromFnResult, IsFromFnResultFrom}
-use Rattle.replay_list.specs.File.{place_after, four_bytes, short_at, long_at, expected}
+use Rattle.replay_list.specs.File.{four_bytes, short_at, long_at}
 use Rattle.replay_list.specs.Format.{each, part}
 
 -- a test that came out false is not true
 pub never : {A : Type 0} → false ≡ true → A
 never e = absurd (subst T (sym e) tt)
-
--- what is lent of a list is as long as the part asked for
-pub counted : {A : Type 0} (n : ℕ) (l : List A) → n ≤ length l → n ≡ length (take n l)
-counted n l h = simp length-take (omega arith)
 
 module _ (s : List ℕ) (at : ℕ) where
   pub short_within : at + 4 ≤ length s → short_at s at ≡ four_bytes s at
@@ -96,16 +89,6 @@ module _ (s : List ℕ) (at : ℕ) (o : Option (List ℕ)) (r : ℕ) (Made : Lis
         | Some y ↦ λ h e. made y e ∙ eight_of s at 8 y h.1 refl ∙ sym (long_within s at h.0)
       ]) there found
 
--- the two ways of what is expected, for every number and its width
-module _ (read : List ℕ → ℕ → ℕ) (width before : ℕ) (s : List ℕ) (at n i : ℕ) where
-  pub expected_written : {p r : ℕ} → i < n → p ≡ place_after at i width → r ≡ read s p → r ≡ expected read width before s at n i
-  unfolding expected
-  expected_written h e f = simp (lt-ltb i n h) (f ∙ ap (read s) e)
-
-  pub expected_left : n ≤ i → before ≡ expected read width before s at n i
-  unfolding expected
-  expected_left h = simp (le-ltb i n h)
-
 -- items by their numbers
 module _ {A : Type 0} where
   pub length_each : (f : ℕ → A) (n : ℕ) → length (each f n) ≡ n
@@ -139,28 +122,6 @@ module _ {A : Type 0} where
   -- one element more is stored
   pub stored : (d : A) (f : ℕ → A) (l : List A) (i : ℕ) (v : A) → i < length l → v ≡ f i → ((k : ℕ) → k < i → get_or l k d ≡ f k) → (k : ℕ) → k < i + 1 → get_or (set l i v) k d ≡ f k
   stored d f l i v room e below = below_more _ _ (λ k h. get_or-set_other l i k v d (λ w. omega arith) ∙ below k h) (get_or-set_same l i v d room ∙ e)
-
-  -- what `get` of a range gives, or no elements
-  part_past : (l : List A) (from to : ℕ) → length l < to → [] ≡ part l from to
-  unfolding part
-  part_past l from to h = simp (lt-ltb (length l) to h)
-
-  part_none : (l : List A) (from to : ℕ) → to < from → [] ≡ part l from to
-  unfolding part
-  part_none l from to k =
-      elim (cases_lt (length l) to) [
-        | inl h ↦ simp (lt-ltb (length l) to h)
-        | inr h ↦ let none : to - from ≡ 0 = omega arith in simp (le-ltb (length l) to h, none)
-      ]
-
-  part_within : (l : List A) (from to : ℕ) → to ≤ length l → take (to - from) (drop from l) ≡ part l from to
-  unfolding part
-  part_within l from to h = simp (le-ltb (length l) to h)
-
-  pub part_got : (l : List A) (from to : ℕ) (o : Option (Bor (List A))) (none r : Bor (List A)) → none.now ≡ [] → r ≡ unwrap_or o none → IsGetRangeResult l from to o → r.now ≡ part l from to
-  part_got l from to None none r empty e got =
-      ap (λ (x : Bor (List A)). x.now) e ∙ empty ∙ elim got.0 [ inl h ↦ part_none l from to h | inr h ↦ part_past l from to h ]
-  part_got l from to (Some x) none r empty e got = ap (λ (y : Bor (List A)). y.now) e ∙ got.0.2 ∙ part_within l from to got.0.1
 
   -- a part of the items
   pub part_each : (f : ℕ → A) (m a b n : ℕ) → b ≡ a + n → b ≤ m → part (each f m) a b ≡ each (λ i. f (a + i)) n

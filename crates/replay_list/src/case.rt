@@ -136,6 +136,7 @@ fn end_of(case: &Case<'_>) -> usize
 }
 
 // The case that begins at `at`.
+#[tactic(auto, using(crate::proofs::Decoding::cut_off, crate::proofs::Decoding::at_hand))]
 pub fn replay_case(s: &[u8], at: usize) -> Replayed
     ensures { ToldOf s.now at result }
 {

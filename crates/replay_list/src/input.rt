@@ -97,6 +97,7 @@ pub fn starts_at(start: Place<'_>) -> [usize; 19]
     starts
 }
 
+#[tactic(auto, using(crate::proofs::Decoding::started), unfolding(crate::specs::Format::places_at, crate::specs::Format::numbers_place, crate::specs::Format::numbers_end, crate::specs::Format::tables_place, crate::specs::Format::records_place, crate::specs::Format::lengths_place))]
 pub fn places_at(start: Place<'_>, starts: &[usize; 19]) -> Places
     requires { starts.now ≡ starts_at start.list.now start.at }
     ensures { result ≡ places_at start.entry.list.now start.entry.at }
