@@ -91,6 +91,7 @@ fn assembly_agrees(case: &Case<'_>, decoded: &Decoded) -> bool
 }
 
 // Whether the buffers' lengths are within the arrays here.
+// Eight tests: `all` over their numbers was tried, and the proof didn't close.
 fn buffers_fit(lengths: Place<'_>) -> bool
     ensures { result ≡ true → LentFit lengths.entry.list.now lengths.entry.at }
 {
