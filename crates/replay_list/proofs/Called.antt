@@ -1,10 +1,11 @@
 -- The assembly's call: the buffers that are lent are the fronts of the arrays here, and what is compared of the arrays holds of the buffers.
-use Prim.Native.Nat.{ℕ, ◌≤◌}
+use Prim.Native.Nat.{ℕ, ◌≤◌, ◌<◌}
 use native.Mathlib.Omega.{arith}
 use mathlib.Core.Path.{◌≡◌, ap, ◌∙◌, subst}
 use mathlib.Core.List.{List, ◌++◌}
-use lib.ListN.{length, take, replicate, length-replicate}
-use lib.Seq.{length-take-le}
+use lib.ListN.{length, get_or, take, replicate, length-replicate}
+use lib.Seq.{get_or-take, length-take-le}
+use Rattle.std.proofs.Math.Seq.{take-append_seam}
 use lib.Ieee.{Float, binary64, of_bits, to_bits, nan}
 use Rattle.model.specs.declared.Job.{Job}
 use Rattle.model.specs.Problem.{Problem}
@@ -14,9 +15,10 @@ use Rattle.copp3_c.specs.declared.AnswerRecord.{AnswerRecord}
 use Rattle.copp3_c.specs.Exported.{Exported, exported}
 use Rattle.replay_list.specs.declared.input.Places.{Places}
 use Rattle.replay_list.specs.File.{item_at, expected_number, expected_bits, expected_byte}
-use Rattle.replay_list.specs.Format.{held_at}
+use Rattle.replay_list.specs.Format.{assembly_at, index_written, held_at}
 use Rattle.replay_list.specs.Agreement.{assembled, lent_buffers, places_here, BuffersHold, LentFit, ResultAgrees}
-use Rattle.replay_list.proofs.Laws.{take_replicate, front_holds}
+use Rattle.replay_list.specs.Arrays.{fronts}
+use Rattle.replay_list.proofs.Laws.{take_replicate}
 
 -- a buffer of n places that held a, and what it holds after the call
 pub record Lent {A : Type 0} (a : A) (n : ℕ) (entry exit : List A) : Type 0 where
@@ -46,33 +48,54 @@ abbrev pub joined : Buffers → Buffers → Buffers
 joined b c =
     buffers (b.rows ++ c.rows) (b.columns ++ c.columns) (b.values ++ c.values) (b.right ++ c.right) (b.kinds ++ c.kinds) (b.dimensions ++ c.dimensions) (b.cost ++ c.cost) (b.index ++ c.index)
 
-same_buffers : (b0 : List ℕ) (b1 : List ℕ) (b2 : List Float) (b3 : List Float) (b4 : List ℕ) (b5 : List ℕ) (b6 : List Float) (b7 : List ℕ) (c0 : List ℕ) (c1 : List ℕ) (c2 : List Float) (c3 : List Float) (c4 : List ℕ) (c5 : List ℕ)
-    (c6 : List Float) (c7 : List ℕ) → b0 ≡ c0 → b1 ≡ c1 → b2 ≡ c2 → b3 ≡ c3 → b4 ≡ c4 → b5 ≡ c5 → b6 ≡ c6 → b7 ≡ c7 → buffers b0 b1 b2 b3 b4 b5 b6 b7 ≡ buffers c0 c1 c2 c3 c4 c5 c6 c7
-same_buffers b0 b1 b2 b3 b4 b5 b6 b7 c0 c1 c2 c3 c4 c5 c6 c7 h0 h1 h2 h3 h4 h5 h6 h7 = cc
+module _ {A : Type 0} where
+  -- the front of an array is what was lent of it
+  front_is : (n : ℕ) (exit rest : List A) → length exit ≡ n → take n (exit ++ rest) ≡ exit
+  front_is n exit rest e = subst (λ (m : ℕ). take m (exit ++ rest) ≡ exit) e (take-append_seam exit rest)
+
+  -- what holds of the first m places of an array holds of its front
+  pub front_holds : {B : Type 0} (f : A → B) (e : ℕ → B) (d : A) (l : List A) (m n : ℕ) → n ≤ m → ((i : ℕ) → i < m → f (get_or l i d) ≡ e i) → (i : ℕ) → i < n → f (get_or (take n l) i d) ≡ e i
+  front_holds f e d l m n fit held i h = ap f (get_or-take n l i d h) ∙ held i (omega arith)
+
+same_buffers : {b0 b1 b4 b5 b7 c0 c1 c4 c5 c7 : List ℕ} {b2 b3 b6 c2 c3 c6 : List Float} → b0 ≡ c0 → b1 ≡ c1 → b2 ≡ c2 → b3 ≡ c3 → b4 ≡ c4 → b5 ≡ c5 → b6 ≡ c6 → b7 ≡ c7 → buffers b0 b1 b2 b3 b4 b5 b6 b7 ≡ buffers c0 c1 c2 c3 c4 c5 c6 c7
+same_buffers h0 h1 h2 h3 h4 h5 h6 h7 = cc
 
 module _ (s : List ℕ) (at : ℕ) (entry exit : Buffers) (all : AllLent (item_at s at) entry exit) where
   lent_are : entry ≡ lent_buffers s at
   unfolding lent_buffers
-  lent_are = same_buffers _ _ _ _ _ _ _ _ _ _ _ _ _ _ _ _ all.rows_lent.entry_is all.columns_lent.entry_is all.values_lent.entry_is all.right_lent.entry_is all.kinds_lent.entry_is all.dimensions_lent.entry_is all.cost_lent.entry_is all.index_lent.entry_is
+  lent_are = same_buffers all.rows_lent.entry_is all.columns_lent.entry_is all.values_lent.entry_is all.right_lent.entry_is all.kinds_lent.entry_is all.dimensions_lent.entry_is all.cost_lent.entry_is all.index_lent.entry_is
 
-  fronts_hold : (held : ℕ) (a : AnswerRecord) (w : ℕ) (rest : Buffers) → LentFit s at → BuffersHold s held a w places_here (joined exit rest) → BuffersHold s held a w (item_at s at) exit
-  fronts_hold held a w rest fit h =
+  fronts_are : (rest : Buffers) → fronts (item_at s at) (joined exit rest) ≡ exit
+  unfolding fronts
+  fronts_are rest =
+      same_buffers (front_is _ exit.rows rest.rows all.rows_lent.length_is) (front_is _ exit.columns rest.columns all.columns_lent.length_is) (front_is _ exit.values rest.values all.values_lent.length_is)
+      (front_is _ exit.right rest.right all.right_lent.length_is) (front_is _ exit.kinds rest.kinds all.kinds_lent.length_is) (front_is _ exit.dimensions rest.dimensions all.dimensions_lent.length_is)
+      (front_is _ exit.cost rest.cost all.cost_lent.length_is) (front_is _ exit.index rest.index all.index_lent.length_is)
+
+  pub called : (rest : Buffers) (answer : AnswerRecord) (job : Job) (records : ObjectiveRecords) (p : Problem) → exported answer exit ≡ assembled job records p entry → exported answer (fronts (item_at s at) (joined exit rest)) ≡ assembled job records p (lent_buffers s at)
+  called rest answer job records p call = ap (exported answer) (fronts_are rest) ∙ call ∙ ap (assembled job records p) lent_are
+
+module _ (s : List ℕ) (at : ℕ) (fit : LentFit s at) where
+  fronts_hold : (held : ℕ) (a : AnswerRecord) (w : ℕ) (b : Buffers) → BuffersHold s held a w places_here b → BuffersHold s held a w (item_at s at) (fronts (item_at s at) b)
+  unfolding fronts
+  fronts_hold held a w b h =
+      let whole : ℕ → ℕ = λ x. x in
       record {
-        in_rows = front_holds (λ (x : ℕ). x) (expected_number s held a.entries) 0 exit.rows rest.rows 128 (item_at s at 0) all.rows_lent.length_is fit.rows_fit h.in_rows;
-        in_columns = front_holds (λ (x : ℕ). x) (expected_number s (held_at held a w).columns a.entries) 0 exit.columns rest.columns 128 (item_at s at 1) all.columns_lent.length_is fit.columns_fit h.in_columns;
-        in_values = front_holds (to_bits binary64) (expected_bits s (held_at held a w).values a.entries) nan exit.values rest.values 128 (item_at s at 2) all.values_lent.length_is fit.values_fit h.in_values;
-        in_right = front_holds (to_bits binary64) (expected_bits s (held_at held a w).right a.rows) nan exit.right rest.right 128 (item_at s at 3) all.right_lent.length_is fit.right_fit h.in_right;
-        in_kinds = front_holds (λ (x : ℕ). x) (expected_byte s (held_at held a w).kinds a.cones) 0 exit.kinds rest.kinds 128 (item_at s at 4) all.kinds_lent.length_is fit.kinds_fit h.in_kinds;
-        in_dimensions = front_holds (λ (x : ℕ). x) (expected_number s (held_at held a w).dimensions a.cones) 0 exit.dimensions rest.dimensions 128 (item_at s at 5) all.dimensions_lent.length_is fit.dimensions_fit h.in_dimensions;
-        in_cost = front_holds (to_bits binary64) (expected_bits s (held_at held a w).cost a.columns) nan exit.cost rest.cost 128 (item_at s at 6) all.cost_lent.length_is fit.cost_fit h.in_cost;
-        in_index = front_holds (λ (x : ℕ). x) (expected_bits s (held_at held a w).index w) 0 exit.index rest.index 160 (item_at s at 7) all.index_lent.length_is fit.index_fit h.in_index;
+        in_rows = front_holds whole (expected_number s held a.entries) 0 b.rows 128 _ fit.rows_fit h.in_rows;
+        in_columns = front_holds whole (expected_number s (held_at held a w).columns a.entries) 0 b.columns 128 _ fit.columns_fit h.in_columns;
+        in_values = front_holds (to_bits binary64) (expected_bits s (held_at held a w).values a.entries) nan b.values 128 _ fit.values_fit h.in_values;
+        in_right = front_holds (to_bits binary64) (expected_bits s (held_at held a w).right a.rows) nan b.right 128 _ fit.right_fit h.in_right;
+        in_kinds = front_holds whole (expected_byte s (held_at held a w).kinds a.cones) 0 b.kinds 128 _ fit.kinds_fit h.in_kinds;
+        in_dimensions = front_holds whole (expected_number s (held_at held a w).dimensions a.cones) 0 b.dimensions 128 _ fit.dimensions_fit h.in_dimensions;
+        in_cost = front_holds (to_bits binary64) (expected_bits s (held_at held a w).cost a.columns) nan b.cost 128 _ fit.cost_fit h.in_cost;
+        in_index = front_holds whole (expected_bits s (held_at held a w).index w) 0 b.index 160 _ fit.index_fit h.in_index;
       }
 
-pub result_agrees : (s : List ℕ) (places : Places) (count : ℕ) (answer : AnswerRecord) (job : Job) (records : ObjectiveRecords) (p : Problem) (entry exit rest : Buffers)
-    → LentFit s places.lengths → AllLent (item_at s places.lengths) entry exit → exported answer exit ≡ assembled job records p entry
-    → ResultAgrees s places count places_here (exported answer (joined exit rest))
+pub result_agrees : (s : List ℕ) (places : Places) (count : ℕ) (answer expected : AnswerRecord) (written : ℕ) (job : Job) (records : ObjectiveRecords) (p : Problem) (found : Buffers)
+    → LentFit s places.lengths → exported answer (fronts (item_at s places.lengths) found) ≡ assembled job records p (lent_buffers s places.lengths)
+    → expected ≡ assembly_at s places.answers → written ≡ index_written count expected → answer ≡ expected → BuffersHold s places.held expected written places_here found
     → ResultAgrees s places count (item_at s places.lengths) (assembled job records p (lent_buffers s places.lengths))
-result_agrees s places count answer job records p entry exit rest fit all call agrees =
+result_agrees s places count answer expected written job records p found fit call same counted agrees held =
     let at = places.lengths in
-    subst (λ (x : Exported). ResultAgrees s places count (item_at s at) x) (call ∙ ap (assembled job records p) (lent_are s at entry exit all))
-    (record { answer_is = agrees.answer_is; buffers_hold = fronts_hold s at entry exit all places.held _ _ rest fit agrees.buffers_hold })
+    subst (λ (x : Exported). ResultAgrees s places count (item_at s at) x) call
+    (record { answer_is = agrees ∙ same; buffers_hold = fronts_hold s at fit places.held _ _ found (rw (counted, same) at held) })

@@ -1,5 +1,5 @@
 -- When a case agrees: sizing's answer, the assembly's answer and every place of the eight buffers are what the list says.
-use Rattle.std.specs.Prelude.{ℕ, ◌≤◌, ◌≡◌, true, cond, List, eqb, leb, get_or, length, replicate}
+use Rattle.std.specs.Prelude.{ℕ, ◌≤◌, ◌≡◌, true, cond, List, eqb, leb, get_or, length, replicate, is_some, Some}
 use Rattle.std.specs.Float.{binary64}
 use Rattle.std.specs.Float.Ieee.{of_bits}
 use Rattle.model.specs.declared.Job.{Job}
@@ -67,5 +67,5 @@ pub record LentFit (s : List ℕ) (at : ℕ) : Type 0 where
 pub record ToldOf (s : List ℕ) (at : ℕ) (r : Replayed) : Type 0 where
   pub group_is : r.group ≡ get_or s at 0
   pub next_is : r.next ≡ case_end s at
-  pub whole_is : r.whole ≡ leb (case_end s at) (length s)
-  pub agreeing : r.agrees ≡ true → Agrees s at
+  pub whole_is : is_some r.agrees ≡ leb (case_end s at) (length s)
+  pub agreeing : r.agrees ≡ Some true → Agrees s at

@@ -8,7 +8,7 @@ use Rattle.copp3_c.specs.declared.ObjectiveRecord.{ObjectiveRecord}
 use Rattle.copp3_c.specs.declared.ObjectiveRecords.{ObjectiveRecords}
 use Rattle.copp3_c.specs.declared.AnswerRecord.{AnswerRecord}
 use Rattle.copp3_c.specs.Exported.{objectives_of}
-use Rattle.replay_list.specs.declared.case.Held.{Held}
+use Rattle.replay_list.specs.declared.arrays.Held.{Held}
 use Rattle.replay_list.specs.declared.input.Places.{Places}
 use Rattle.replay_list.specs.File.{place_after, long_at, float_at, item_at}
 

@@ -1,3 +1,5 @@
 pub mod Agreement
+pub mod Arrays
+pub mod Decoded
 pub mod File
 pub mod Format

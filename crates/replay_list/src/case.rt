@@ -1,77 +1,52 @@
 // Replays a case: decodes it, calls sizing and the assembly, and compares.
-ghost use Rattle.std.specs.Prelude.{◌≡◌, true, ◌≤◌, leb, get_or};
-ghost use Rattle.model.specs.Answers.{buffers};
-ghost use Rattle.model.specs.Lent.{at_entry};
-ghost use Rattle.copp3_c.specs.Exported.{exported};
+ghost use Rattle.std.specs.Prelude.{◌≡◌, true, ◌≤◌, get_or};
 ghost use Rattle.replay_list.specs.File.{item_at};
-ghost use Rattle.replay_list.specs.Format.{part, list_in, starts_at, places_at, problem_with, sizing_at, assembly_at, index_written, held_at};
-ghost use Rattle.replay_list.specs.Agreement.{assembled, lent_buffers, places_here, BuffersHold, LentFit, ResultAgrees, Agrees, ToldOf};
+ghost use Rattle.replay_list.specs.Format.{sizing_at, assembly_at, index_written, case_end};
+ghost use Rattle.replay_list.specs.Decoded.{problem_of};
+ghost use Rattle.replay_list.specs.Agreement.{assembled, lent_buffers, LentFit, ResultAgrees, Agrees, ToldOf};
 
-use crate::compare::{
-    BYTE, FLOAT, LONG, NUMBER, bytes_agree, floats_agree, index_agrees, numbers_agree,
-};
-use crate::file::{byte_at, past, short_at};
-use crate::input::{Places, length_at};
+use crate::arrays::held_at;
+use crate::decoded::{Decoded, decode};
+use crate::file::{Place, past};
+use crate::layout::{Case, laid_out};
 use crate::{input, lent};
-use copp3_c::{AnswerRecord, ObjectiveRecords};
-use model::Job;
+use copp3_c::AnswerRecord;
 
-// What was found: the case's group, whether it is whole, which is that all its bytes are at hand,
-// whether all agrees, and where the next case begins.
+// What was found: the case's group, whether all agrees, which is None where the case is not whole,
+// that is where not all its bytes are at hand, and where the next case begins.
 #[derive(Clone, Copy)]
 pub struct Replayed {
     pub group: u8,
-    pub whole: bool,
-    pub agrees: bool,
+    pub agrees: Option<bool>,
     pub next: usize,
 }
 
-// Where what the buffers hold begins, after the rows, and where it ends.
-#[derive(Clone, Copy)]
-struct Held {
-    columns: usize,
-    values: usize,
-    right: usize,
-    kinds: usize,
-    dimensions: usize,
-    cost: usize,
-    index: usize,
-    end: usize,
-}
-
-fn item(s: &[u8], at: usize, i: usize) -> usize
-    ensures { result ≡ item_at (at_entry s) at i }
-{
-    input::size_of(short_at(s, past(at, i, 4)))
-}
-
-fn sizing_at(s: &[u8], at: usize) -> AnswerRecord
-    ensures { result ≡ sizing_at (at_entry s) at }
+#[tactic(auto, unfolding(crate::specs::Format::sizing_at))]
+fn sizing_at(answers: Place<'_>) -> AnswerRecord
+    ensures { result ≡ sizing_at answers.entry.list.now answers.entry.at }
 {
     AnswerRecord {
-        number: item(s, at, 0),
-        place: item(s, at, 1),
-        entries: item(s, at, 2),
-        rows: item(s, at, 3),
-        cones: item(s, at, 4),
-        columns: item(s, at, 5),
+        number: answers.item(0),
+        place: answers.item(1),
+        entries: answers.item(2),
+        rows: answers.item(3),
+        cones: answers.item(4),
+        columns: answers.item(5),
     }
 }
 
 // The assembly's answer has sizing's counts where it accepts.
-fn assembly_at(s: &[u8], at: usize) -> AnswerRecord
-    ensures { result ≡ assembly_at (at_entry s) at }
+#[tactic(auto, unfolding(crate::specs::Format::assembly_at, crate::specs::Format::sizing_at))]
+fn assembly_at(answers: Place<'_>) -> AnswerRecord
+    ensures { result ≡ assembly_at answers.entry.list.now answers.entry.at }
 {
-    let number = item(s, at, 6);
-    let place = item(s, at, 7);
+    let number = answers.item(6);
+    let place = answers.item(7);
     if number == 0 {
         return AnswerRecord {
             number,
             place,
-            entries: item(s, at, 2),
-            rows: item(s, at, 3),
-            cones: item(s, at, 4),
-            columns: item(s, at, 5),
+            ..sizing_at(answers)
         };
     }
     AnswerRecord {
@@ -93,228 +68,94 @@ fn same_answer(a: AnswerRecord, b: AnswerRecord) -> bool
 }
 
 // How many places of the index are written: eight for each objective and for the two owners before them.
+#[tactic(auto, unfolding(crate::specs::Format::index_written))]
 fn index_written(count: usize, answer: AnswerRecord) -> usize
     ensures { result ≡ index_written count answer }
 {
     if answer.number == 0 {
-        return past(16, count, 8);
-    }
-    0
-}
-
-fn held_at(at: usize, counts: AnswerRecord, written: usize) -> Held
-    ensures { result ≡ held_at at counts written }
-{
-    let columns = past(at, counts.entries, 4);
-    let values = past(columns, counts.entries, 4);
-    let right = past(values, counts.entries, 8);
-    let kinds = past(right, counts.rows, 8);
-    let dimensions = past(kinds, counts.cones, 1);
-    let cost = past(dimensions, counts.cones, 4);
-    let index = past(cost, counts.columns, 8);
-    let end = past(index, written, 8);
-    Held {
-        columns,
-        values,
-        right,
-        kinds,
-        dimensions,
-        cost,
-        index,
-        end,
+        past(16, count, 8)
+    } else {
+        0
     }
 }
 
-fn buffers_agree(
-    s: &[u8],
-    at: usize,
-    counts: AnswerRecord,
-    written: usize,
-    rows: &[u32; 128],
-    columns: &[u32; 128],
-    values: &[f64; 128],
-    right: &[f64; 128],
-    kinds: &[u8; 128],
-    dimensions: &[u32; 128],
-    cost: &[f64; 128],
-    index: &[usize; 160],
-) -> bool
-    ensures { result ≡ true → BuffersHold (at_entry s) at counts written places_here (buffers rows.now columns.now values.now right.now kinds.now dimensions.now cost.now index.now) }
+fn assembly_agrees(case: &Case<'_>, decoded: &Decoded) -> bool
+    requires { LentFit case.now.start.list.now case.now.places.lengths }
+    ensures { result ≡ true → ResultAgrees case.now.start.list.now case.now.places decoded.now.job.count (item_at case.now.start.list.now case.now.places.lengths) (assembled decoded.now.job decoded.now.records (problem_of decoded.now) (lent_buffers case.now.start.list.now case.now.places.lengths)) }
 {
-    let held = held_at(at, counts, written);
-    let entries = numbers_agree(s, at, counts.entries, rows)
-        & numbers_agree(s, held.columns, counts.entries, columns)
-        & floats_agree(s, held.values, counts.entries, values);
-    let cones = bytes_agree(s, held.kinds, counts.cones, kinds)
-        & numbers_agree(s, held.dimensions, counts.cones, dimensions);
-    entries
-        & cones
-        & floats_agree(s, held.right, counts.rows, right)
-        & floats_agree(s, held.cost, counts.columns, cost)
-        & index_agrees(s, held.index, written, index)
-}
-
-// Whether an answer and what the arrays hold after it are what the list says.
-fn result_agrees(
-    s: &[u8],
-    places: Places,
-    count: usize,
-    answer: AnswerRecord,
-    rows: &[u32; 128],
-    columns: &[u32; 128],
-    values: &[f64; 128],
-    right: &[f64; 128],
-    kinds: &[u8; 128],
-    dimensions: &[u32; 128],
-    cost: &[f64; 128],
-    index: &[usize; 160],
-) -> bool
-    ensures { result ≡ true → ResultAgrees (at_entry s) places count places_here (exported answer (buffers rows.now columns.now values.now right.now kinds.now dimensions.now cost.now index.now)) }
-{
-    let expected = assembly_at(s, places.answers);
-    let written = index_written(count, expected);
-    let held = buffers_agree(
-        s,
-        places.held,
-        expected,
-        written,
-        rows,
-        columns,
-        values,
-        right,
-        kinds,
-        dimensions,
-        cost,
-        index,
-    );
-    held & same_answer(answer, expected)
-}
-
-fn assembly_agrees(
-    s: &[u8],
-    places: Places,
-    job: Job,
-    records: ObjectiveRecords,
-    floats: &[f64; 128],
-    numbers: &[u32; 64],
-    starts: &[usize; 19],
-) -> bool
-    requires { LentFit s.now places.lengths }
-    ensures { result ≡ true → ResultAgrees (at_entry s) places job.count (item_at (at_entry s) places.lengths) (assembled job records (problem_with job records (list_in (at_entry floats) (at_entry starts)) (part (at_entry numbers) 0 places.split) (part (at_entry numbers) places.split places.end)) (lent_buffers (at_entry s) places.lengths)) }
-{
-    let mut rows = [NUMBER; 128];
-    let mut columns = [NUMBER; 128];
-    let mut values = [FLOAT; 128];
-    let mut right = [FLOAT; 128];
-    let mut kinds = [BYTE; 128];
-    let mut dimensions = [NUMBER; 128];
-    let mut cost = [FLOAT; 128];
-    let mut index = [LONG; 160];
-    let answer = lent::assemble(
-        job,
-        records,
-        floats,
-        numbers,
-        starts,
-        places,
-        &mut rows[..item(s, places.lengths, 0)],
-        &mut columns[..item(s, places.lengths, 1)],
-        &mut values[..item(s, places.lengths, 2)],
-        &mut right[..item(s, places.lengths, 3)],
-        &mut kinds[..item(s, places.lengths, 4)],
-        &mut dimensions[..item(s, places.lengths, 5)],
-        &mut cost[..item(s, places.lengths, 6)],
-        &mut index[..item(s, places.lengths, 7)],
-    );
-    result_agrees(
-        s,
-        places,
-        job.count,
-        answer,
-        &rows,
-        &columns,
-        &values,
-        &right,
-        &kinds,
-        &dimensions,
-        &cost,
-        &index,
-    )
-}
-
-fn fits_at(s: &[u8], at: usize, i: usize) -> bool
-    ensures { result ≡ leb (item_at (at_entry s) at i) 128 }
-{
-    item(s, at, i) <= 128
+    let (answer, arrays) = lent::assemble(decoded, case.start.to(case.places.lengths));
+    let expected = assembly_at(case.start.to(case.places.answers));
+    let written = index_written(decoded.job.count, expected);
+    let rows = case.start.to(case.places.held);
+    same_answer(answer, expected) && arrays.agree(rows, expected, written)
 }
 
 // Whether the buffers' lengths are within the arrays here.
-fn buffers_fit(s: &[u8], lengths: usize) -> bool
-    ensures { result ≡ true → LentFit (at_entry s) lengths }
+// Eight tests: `all` over their numbers was tried, and the proof didn't close.
+fn buffers_fit(lengths: Place<'_>) -> bool
+    ensures { result ≡ true → LentFit lengths.entry.list.now lengths.entry.at }
 {
-    let entries = fits_at(s, lengths, 0) & fits_at(s, lengths, 1) & fits_at(s, lengths, 2);
-    let cones = fits_at(s, lengths, 4) & fits_at(s, lengths, 5);
-    let right = fits_at(s, lengths, 3) & fits_at(s, lengths, 6);
-    entries & cones & right & (item(s, lengths, 7) <= 160)
+    lengths.item(0) <= 128
+        && lengths.item(1) <= 128
+        && lengths.item(2) <= 128
+        && lengths.item(3) <= 128
+        && lengths.item(4) <= 128
+        && lengths.item(5) <= 128
+        && lengths.item(6) <= 128
+        && lengths.item(7) <= 160
 }
 
 // Whether the case is within the arrays here.
-fn fits(s: &[u8], at: usize, starts: &[usize; 19], places: Places) -> bool
-    ensures { result ≡ true → (get_or (at_entry starts) 18 0 ≤ 128) × (places.end ≤ 64) × LentFit (at_entry s) places.lengths }
+fn fits(case: &Case<'_>) -> bool
+    ensures { result ≡ true → (get_or case.now.starts 18 0 ≤ 128) × (case.now.places.end ≤ 64) × LentFit case.now.start.list.now case.now.places.lengths }
 {
-    let input = (starts[18] <= 128) & (places.end <= 64) & (length_at(s, at, 18) <= 16);
-    input & buffers_fit(s, places.lengths)
+    case.starts[18] <= 128
+        && case.places.end <= 64
+        && input::length_at(case.start, 18) <= 16
+        && buffers_fit(case.start.to(case.places.lengths))
 }
 
-fn case_agrees(s: &[u8], at: usize, starts: &[usize; 19], places: Places) -> bool
-    requires starts_value { starts.now ≡ starts_at s.now at }
-    requires places_value { places ≡ places_at s.now at }
-    requires starts_bound { (get_or starts.now 18 0 ≤ 128) × (places.end ≤ 64) × LentFit s.now places.lengths }
-    ensures { result ≡ true → Agrees (at_entry s) at }
+fn case_agrees(case: &Case<'_>) -> bool
+    ensures { result ≡ true → Agrees case.now.start.list.now case.now.start.at }
 {
-    let floats = input::read_floats(s, places, starts[1]);
-    let numbers = input::read_numbers(s, places.numbers);
-    let job = input::job_at(s, at);
-    let records = input::records_at(s, places.records, length_at(s, at, 18));
-    let sized = lent::size(job, records, &floats, &numbers, starts, places);
-    if !same_answer(sized, sizing_at(s, places.answers)) {
+    if !fits(case) {
         return false;
     }
-    assembly_agrees(s, places, job, records, &floats, &numbers, starts)
+    let decoded = decode(case);
+    let sized = sizing_at(case.start.to(case.places.answers));
+    same_answer(lent::size(&decoded), sized) && assembly_agrees(case, &decoded)
+}
+
+// Where the next case begins, which the list's own numbers say.
+#[tactic(auto, unfolding(crate::specs::Format::case_end))]
+fn end_of(case: &Case<'_>) -> usize
+    ensures { result ≡ case_end case.now.start.list.now case.now.start.at }
+{
+    let answer = assembly_at(case.start.to(case.places.answers));
+    let written = index_written(input::count_at(case.start, 3), answer);
+    held_at(case.places.held, answer, written).end
 }
 
 // The case that begins at `at`.
+#[tactic(auto, using(crate::proofs::Decoding::cut_off, crate::proofs::Decoding::at_hand))]
 pub fn replay_case(s: &[u8], at: usize) -> Replayed
-    ensures { ToldOf (at_entry s) at result }
+    ensures { ToldOf s.now at result }
 {
-    let group = byte_at(s, at);
-    let starts = input::starts_at(s, at);
-    let places = input::places_at(s, at, &starts);
-    let answer = assembly_at(s, places.answers);
-    let written = index_written(input::count_at(s, at, 3), answer);
-    let held = held_at(places.held, answer, written);
-    let next = held.end;
+    let start = Place { list: s, at };
+    let case = laid_out(start);
+    let group = start.byte();
+    let next = end_of(&case);
     if s.len() < next {
         return Replayed {
             group,
-            whole: false,
-            agrees: false,
+            agrees: None,
             next,
         };
     }
-    if !fits(s, at, &starts, places) {
-        return Replayed {
-            group,
-            whole: true,
-            agrees: false,
-            next,
-        };
-    }
-    let agrees = case_agrees(s, at, &starts, places);
+    let agrees = case_agrees(&case);
     Replayed {
         group,
-        whole: true,
-        agrees,
+        agrees: Some(agrees),
         next,
     }
 }

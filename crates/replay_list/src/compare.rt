@@ -1,118 +1,150 @@
-// Compares the eight buffers with the file, bit for bit: at the places that were written with the
-// file's numbers, and at all later places with what the buffers held before the call.
-ghost use Rattle.std.specs.Prelude.{◌≡◌, true};
+// Compares a buffer with the list, bit for bit: the places that were written with the list's numbers,
+// and all later places with what the buffer held before the call.
+ghost use Rattle.std.specs.Prelude.{◌≡◌, ℕ, true, List, length};
 ghost use Rattle.std.specs.Float.{binary64, nan};
 ghost use Rattle.std.specs.Float.Ieee.{to_bits};
-ghost use Rattle.model.specs.Lent.{at_entry};
-ghost use Rattle.replay_list.specs.File.{expected_number, expected_bits, expected_byte, NumbersHold, FloatsHold, BytesHold, IndexHolds};
+ghost use Rattle.model.specs.Verdicts.{itself};
+ghost use Rattle.replay_list.specs.File.{byte_at, short_at, long_at, expected, Holds};
 
-use crate::file::{byte_at, long_at, past, short_at};
+use crate::file::Place;
 
 // What the buffers hold before a call, and the bits of that float.
 pub const NUMBER: u32 = 2779096485;
 
 pub const FLOAT: f64 = -1234.5;
 
-pub const BITS: u64 = 13876516240719085568;
+const BITS: u64 = 13876516240719085568;
 
 pub const BYTE: u8 = 165;
 
 pub const LONG: usize = 13876516240719085568;
 
+// What a buffer has at a place: a number, or a float by its bits.
+pub trait Element: Copy {
+    ghost number: { Self → ℕ };
+
+    ghost read: { List ℕ → ℕ → ℕ };
+
+    ghost WIDTH: { ℕ };
+
+    ghost before: { ℕ };
+
+    // How many bytes of the list it takes.
+    const WIDTH: usize;
+
+    // Whether it is what the list has at a place.
+    fn is_at(self, place: Place<'_>) -> bool
+        ensures { result ≡ true → number self ≡ read place.entry.list.now place.entry.at };
+
+    // Whether it is what a buffer holds before a call.
+    fn is_before(self) -> bool
+        ensures { result ≡ true → number self ≡ before };
+}
+
+impl Element for u8 {
+    ghost number = { itself };
+
+    ghost read = { byte_at };
+
+    ghost WIDTH = { 1 };
+
+    ghost before = { 165 };
+
+    const WIDTH: usize = 1;
+
+    fn is_at(self, place: Place<'_>) -> bool {
+        self == place.byte()
+    }
+
+    fn is_before(self) -> bool {
+        self == BYTE
+    }
+}
+
+impl Element for u32 {
+    ghost number = { itself };
+
+    ghost read = { short_at };
+
+    ghost WIDTH = { 4 };
+
+    ghost before = { 2779096485 };
+
+    const WIDTH: usize = 4;
+
+    fn is_at(self, place: Place<'_>) -> bool {
+        self == place.short()
+    }
+
+    fn is_before(self) -> bool {
+        self == NUMBER
+    }
+}
+
+impl Element for usize {
+    ghost number = { itself };
+
+    ghost read = { long_at };
+
+    ghost WIDTH = { 8 };
+
+    ghost before = { 13876516240719085568 };
+
+    const WIDTH: usize = 8;
+
+    fn is_at(self, place: Place<'_>) -> bool {
+        self as u64 == place.long()
+    }
+
+    fn is_before(self) -> bool {
+        self == LONG
+    }
+}
+
+impl Element for f64 {
+    ghost number = { to_bits binary64 };
+
+    ghost read = { long_at };
+
+    ghost WIDTH = { 8 };
+
+    ghost before = { 13876516240719085568 };
+
+    const WIDTH: usize = 8;
+
+    fn is_at(self, place: Place<'_>) -> bool {
+        has_bits(self, place.long())
+    }
+
+    fn is_before(self) -> bool {
+        has_bits(self, BITS)
+    }
+}
+
 // Whether x is no NaN and has these bits.
 fn has_bits(x: f64, bits: u64) -> bool
     ensures { result ≡ true → (x ≡ nan → ⊥) × (to_bits binary64 x ≡ bits) }
 {
-    if x != x {
-        return false;
-    }
-    f64::to_bits(x) == bits
+    !x.is_nan() && f64::to_bits(x) == bits
 }
 
-fn expected_number(s: &[u8], at: usize, n: usize, i: usize) -> u32
-    ensures { result ≡ expected_number (at_entry s) at n i }
+// Whether x is what a buffer of n written places, which the list has from a place on, holds at place i.
+#[tactic(auto, unfolding(crate::specs::File::expected))]
+fn is_expected<T: Element>(x: T, from: Place<'_>, n: usize, i: usize) -> bool
+    ensures { result ≡ true → T.number x ≡ expected T.read T.WIDTH T.before from.entry.list.now from.entry.at n i }
 {
     if i < n {
-        short_at(s, past(at, i, 4))
+        x.is_at(from.past(i, T::WIDTH))
     } else {
-        NUMBER
+        x.is_before()
     }
 }
 
-fn expected_bits(s: &[u8], at: usize, n: usize, i: usize) -> u64
-    ensures { result ≡ expected_bits (at_entry s) at n i }
+pub fn agrees<T: Element>(found: &[T], from: Place<'_>, n: usize) -> bool
+    ensures { result ≡ true → (d : T) → Holds T.number d (expected T.read T.WIDTH T.before from.entry.list.now from.entry.at n) (length found.now) found.now }
 {
-    if i < n {
-        long_at(s, past(at, i, 8))
-    } else {
-        BITS
-    }
-}
-
-fn expected_byte(s: &[u8], at: usize, n: usize, i: usize) -> u8
-    ensures { result ≡ expected_byte (at_entry s) at n i }
-{
-    if i < n {
-        byte_at(s, past(at, i, 1))
-    } else {
-        BYTE
-    }
-}
-
-pub fn numbers_agree(s: &[u8], at: usize, n: usize, found: &[u32; 128]) -> bool
-    ensures { result ≡ true → NumbersHold (at_entry s) at n 128 (at_entry found) }
-{
-    let mut i: usize = 0;
-    while i < 128 {
-        if found[i] != expected_number(s, at, n, i) {
-            return false;
-        }
-        i += 1;
-    }
-    true
-}
-
-pub fn floats_agree(s: &[u8], at: usize, n: usize, found: &[f64; 128]) -> bool
-    ensures { result ≡ true → FloatsHold (at_entry s) at n 128 (at_entry found) }
-{
-    let mut i: usize = 0;
-    while i < 128 {
-        if !has_bits(found[i], expected_bits(s, at, n, i)) {
-            return false;
-        }
-        i += 1;
-    }
-    true
-}
-
-pub fn bytes_agree(s: &[u8], at: usize, n: usize, found: &[u8; 128]) -> bool
-    ensures { result ≡ true → BytesHold (at_entry s) at n 128 (at_entry found) }
-{
-    let mut i: usize = 0;
-    while i < 128 {
-        if found[i] != expected_byte(s, at, n, i) {
-            return false;
-        }
-        i += 1;
-    }
-    true
-}
-
-fn wide(x: usize) -> u64
-    ensures { result ≡ x }
-{
-    x as u64
-}
-
-pub fn index_agrees(s: &[u8], at: usize, n: usize, found: &[usize; 160]) -> bool
-    ensures { result ≡ true → IndexHolds (at_entry s) at n 160 (at_entry found) }
-{
-    let mut i: usize = 0;
-    while i < 160 {
-        if wide(found[i]) != expected_bits(s, at, n, i) {
-            return false;
-        }
-        i += 1;
-    }
-    true
+    found
+        .iter()
+        .enumerate()
+        .all(|(i, x)| is_expected(*x, from, n, i))
 }

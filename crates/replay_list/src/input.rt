@@ -1,12 +1,12 @@
-// Decodes a case's problem. `at` is where the case begins.
+// Decodes a case's problem.
 ghost use Rattle.std.specs.Prelude.{◌≡◌, cond};
-ghost use Rattle.model.specs.Lent.{at_entry};
 ghost use Rattle.replay_list.specs.File.{item_at};
-ghost use Rattle.replay_list.specs.Format.{each, part, count_at, bound_at, job_at, length_at, floats_of, starts_at, places_at, float_number, record_at, record_or_none, records_from};
+ghost use Rattle.replay_list.specs.Format.{each, count_at, bound_at, job_at, length_at, floats_of, starts_at, places_at, float_number, record_at, record_or_none, records_from};
 
-use crate::file::{byte_at, float_at, long_at, past, short_at};
+use crate::file::{Place, past};
 use copp3_c::{ObjectiveRecord, ObjectiveRecords};
 use model::{Boundary, Bounds, Ends, Job};
+use std::array::from_fn;
 
 // Where the parts of a case begin: the grid, tables 0 and 1, the grid as if the other tables came
 // right after it, the records, the buffers' lengths, the answers, and what the buffers hold. Table 0
@@ -24,106 +24,91 @@ pub struct Places {
     pub end: usize,
 }
 
-fn whole(n: u64) -> usize
-    ensures { result ≡ n }
+pub fn count_at(start: Place<'_>, i: usize) -> usize
+    ensures { result ≡ count_at start.entry.list.now start.entry.at i }
 {
-    n as usize
+    start.past(1, 1).past(i, 8).long() as usize
 }
 
-pub fn size_of(n: u32) -> usize
-    ensures { result ≡ n }
+fn bound_at(start: Place<'_>, i: usize) -> f64
+    ensures { result ≡ bound_at start.entry.list.now start.entry.at i }
 {
-    n as usize
-}
-
-pub fn count_at(s: &[u8], at: usize, i: usize) -> usize
-    ensures { result ≡ count_at (at_entry s) at i }
-{
-    whole(long_at(s, past(past(at, 1, 1), i, 8)))
-}
-
-fn bound_at(s: &[u8], at: usize, i: usize) -> f64
-    ensures { result ≡ bound_at (at_entry s) at i }
-{
-    float_at(s, past(past(at, 33, 1), i, 8))
+    start.past(33, 1).past(i, 8).float()
 }
 
 // A length of the case: of the grid at 0, of table k at k + 1, of the pool at 17, of the records at 18.
-pub fn length_at(s: &[u8], at: usize, k: usize) -> usize
-    ensures { result ≡ length_at (at_entry s) at k }
+pub fn length_at(start: Place<'_>, k: usize) -> usize
+    ensures { result ≡ length_at start.entry.list.now start.entry.at k }
 {
-    size_of(short_at(s, past(past(at, 97, 1), k, 4)))
+    start.past(97, 1).item(k)
 }
 
-pub fn job_at(s: &[u8], at: usize) -> Job
-    ensures { result ≡ job_at (at_entry s) at }
+#[tactic(auto, unfolding(crate::specs::Format::job_at))]
+pub fn job_at(start: Place<'_>) -> Job
+    ensures { result ≡ job_at start.entry.list.now start.entry.at }
 {
     let boundary = Boundary {
-        a0: bound_at(s, at, 0),
-        a1: bound_at(s, at, 1),
-        b0: bound_at(s, at, 2),
-        b1: bound_at(s, at, 3),
+        a0: bound_at(start, 0),
+        a1: bound_at(start, 1),
+        b0: bound_at(start, 2),
+        b1: bound_at(start, 3),
     };
-    let start = Bounds {
-        maximum: bound_at(s, at, 4),
-        minimum: bound_at(s, at, 5),
+    let first = Bounds {
+        maximum: bound_at(start, 4),
+        minimum: bound_at(start, 5),
     };
-    let end = Bounds {
-        maximum: bound_at(s, at, 6),
-        minimum: bound_at(s, at, 7),
+    let last = Bounds {
+        maximum: bound_at(start, 6),
+        minimum: bound_at(start, 7),
     };
     let ends = Ends {
-        n0: count_at(s, at, 1),
-        n1: count_at(s, at, 2),
+        n0: count_at(start, 1),
+        n1: count_at(start, 2),
     };
     Job {
         boundary,
-        start,
-        end,
+        start: first,
+        end: last,
         ends,
-        d: count_at(s, at, 0),
-        count: count_at(s, at, 3),
+        d: count_at(start, 0),
+        count: count_at(start, 3),
     }
 }
 
 // How many floats list k has: tables 0 and 1 have none.
-fn floats_of(s: &[u8], at: usize, k: usize) -> usize
-    ensures { result ≡ floats_of (at_entry s) at k }
+#[tactic(auto, unfolding(crate::specs::Format::floats_of))]
+fn floats_of(start: Place<'_>, k: usize) -> usize
+    ensures { result ≡ floats_of start.entry.list.now start.entry.at k }
 {
-    if k == 1 {
-        return 0;
+    match k {
+        1 | 2 => 0,
+        _ => length_at(start, k),
     }
-    if k == 2 {
-        return 0;
-    }
-    length_at(s, at, k)
 }
 
 // Where each list of floats begins among all floats of the case, and where the last ends.
-pub fn starts_at(s: &[u8], at: usize) -> [usize; 19]
-    ensures { result ≡ starts_at (at_entry s) at }
+pub fn starts_at(start: Place<'_>) -> [usize; 19]
+    ensures { result ≡ starts_at start.entry.list.now start.entry.at }
 {
-    let mut starts = [0usize; 19];
-    let mut k: usize = 0;
-    while k < 18 {
-        let next = past(starts[k], floats_of(s, at, k), 1);
-        starts[k + 1] = next;
-        k += 1;
+    let mut starts = [0; 19];
+    for k in 0..18 {
+        starts[k + 1] = past(starts[k], floats_of(start, k), 1);
     }
     starts
 }
 
-pub fn places_at(s: &[u8], at: usize, starts: &[usize; 19]) -> Places
-    requires { starts.now ≡ starts_at s.now at }
-    ensures { result ≡ places_at (at_entry s) at }
+#[tactic(auto, using(crate::proofs::Decoding::started), unfolding(crate::specs::Format::places_at, crate::specs::Format::numbers_place, crate::specs::Format::numbers_end, crate::specs::Format::tables_place, crate::specs::Format::records_place, crate::specs::Format::lengths_place))]
+pub fn places_at(start: Place<'_>, starts: &[usize; 19]) -> Places
+    requires { starts.now ≡ starts_at start.list.now start.at }
+    ensures { result ≡ places_at start.entry.list.now start.entry.at }
 {
-    let grid = past(at, 173, 1);
+    let grid = past(start.at, 173, 1);
     let numbers = past(grid, starts[1], 8);
-    let split = length_at(s, at, 1);
-    let end = past(split, length_at(s, at, 2), 1);
+    let split = length_at(start, 1);
+    let end = past(split, length_at(start, 2), 1);
     let tables = past(grid, end, 4);
     let records = past(tables, starts[18], 8);
-    let lengths = past(records, length_at(s, at, 18), 41);
+    let lengths = past(records, length_at(start, 18), 41);
     let answers = past(lengths, 32, 1);
     let held = past(answers, 32, 1);
     Places {
@@ -139,62 +124,55 @@ pub fn places_at(s: &[u8], at: usize, starts: &[usize; 19]) -> Places
     }
 }
 
-fn either(first: bool, a: usize, b: usize) -> usize
-    ensures { result ≡ cond first a b }
+// Float i in the list's order: the first ones are the grid's, which begins at one place; the others
+// follow from another on, past the numbers of tables 0 and 1.
+#[tactic(auto, unfolding(crate::specs::Format::float_number))]
+fn float_number(grid: Place<'_>, tables: usize, first: usize, i: usize) -> f64
+    ensures { result ≡ float_number grid.entry.list.now grid.entry.at tables first i }
 {
-    if first { a } else { b }
-}
-
-// The floats in the file's order: the grid, and past the numbers of tables 0 and 1 all others.
-pub fn read_floats(s: &[u8], places: Places, first: usize) -> [f64; 128]
-    ensures { result ≡ each (float_number (at_entry s) places.grid places.tables first) 128 }
-{
-    let grid = places.grid;
-    let tables = places.tables;
-    let mut out = [0.0; 128];
-    let mut i: usize = 0;
-    while i < 128 {
-        let from = either(i < first, grid, tables);
-        out[i] = float_at(s, past(from, i, 8));
-        i += 1;
+    if i < first {
+        grid.past(i, 8).float()
+    } else {
+        grid.to(tables).past(i, 8).float()
     }
-    out
 }
 
-pub fn read_numbers(s: &[u8], at: usize) -> [u32; 64]
-    ensures { result ≡ each (item_at (at_entry s) at) 64 }
+pub fn read_floats(grid: Place<'_>, tables: usize, first: usize) -> [f64; 128]
+    ensures { result ≡ each (float_number grid.entry.list.now grid.entry.at tables first) 128 }
 {
-    let mut out = [0u32; 64];
-    let mut i: usize = 0;
-    while i < 64 {
-        out[i] = short_at(s, past(at, i, 4));
-        i += 1;
-    }
-    out
+    from_fn(|i| float_number(grid, tables, first, i))
 }
 
-fn wide(byte: u8) -> u64
-    ensures { result ≡ byte }
+fn number_at(from: Place<'_>, i: usize) -> u32
+    ensures { result ≡ item_at from.entry.list.now from.entry.at i }
 {
-    byte as u64
+    from.past(i, 4).short()
 }
 
-fn record_at(s: &[u8], at: usize) -> ObjectiveRecord
-    ensures { result ≡ record_at (at_entry s) at }
+pub fn read_numbers(from: Place<'_>) -> [u32; 64]
+    ensures { result ≡ each (item_at from.entry.list.now from.entry.at) 64 }
+{
+    from_fn(|i| number_at(from, i))
+}
+
+#[tactic(auto, unfolding(crate::specs::Format::record_at))]
+fn record_at(from: Place<'_>) -> ObjectiveRecord
+    ensures { result ≡ record_at from.entry.list.now from.entry.at }
 {
     ObjectiveRecord {
-        kind: wide(byte_at(s, at)),
-        weight: float_at(s, past(at, 1, 1)),
-        start: whole(long_at(s, past(at, 9, 1))),
-        len: whole(long_at(s, past(at, 17, 1))),
-        start2: whole(long_at(s, past(at, 25, 1))),
-        len2: whole(long_at(s, past(at, 33, 1))),
+        kind: u64::from(from.byte()),
+        weight: from.past(1, 1).float(),
+        start: from.past(9, 1).long() as usize,
+        len: from.past(17, 1).long() as usize,
+        start2: from.past(25, 1).long() as usize,
+        len2: from.past(33, 1).long() as usize,
     }
 }
 
 // Record i of the n at a place, and past these Time of weight 0, which nothing looks at.
-fn record_or_none(s: &[u8], at: usize, n: usize, i: usize) -> ObjectiveRecord
-    ensures { result ≡ record_or_none (at_entry s) at n i }
+#[tactic(auto, unfolding(crate::specs::Format::record_or_none))]
+fn record_or_none(from: Place<'_>, n: usize, i: usize) -> ObjectiveRecord
+    ensures { result ≡ record_or_none from.entry.list.now from.entry.at n i }
 {
     if n <= i {
         return ObjectiveRecord {
@@ -206,42 +184,13 @@ fn record_or_none(s: &[u8], at: usize, n: usize, i: usize) -> ObjectiveRecord
             len2: 0,
         };
     }
-    record_at(s, past(at, i, 41))
+    record_at(from.past(i, 41))
 }
 
-pub fn records_at(s: &[u8], at: usize, n: usize) -> ObjectiveRecords
-    ensures { result ≡ records_from (at_entry s) at n }
+pub fn records_at(from: Place<'_>, n: usize) -> ObjectiveRecords
+    ensures { result ≡ records_from from.entry.list.now from.entry.at n }
 {
-    let mut items = [record_or_none(s, at, 0, 0); 16];
-    let mut i: usize = 0;
-    while i < 16 {
-        items[i] = record_or_none(s, at, n, i);
-        i += 1;
+    ObjectiveRecords {
+        items: from_fn(|i| record_or_none(from, n, i)),
     }
-    ObjectiveRecords { items }
-}
-
-// Elements from a place to another, and none where the second is past the end.
-pub fn floats_part(s: &[f64], from: usize, to: usize) -> &[f64]
-    ensures { result.now ≡ part (at_entry s) from to }
-{
-    if s.len() < to {
-        return &s[..0];
-    }
-    if to < from {
-        return &s[..0];
-    }
-    &s[from..to]
-}
-
-pub fn numbers_part(s: &[u32], from: usize, to: usize) -> &[u32]
-    ensures { result.now ≡ part (at_entry s) from to }
-{
-    if s.len() < to {
-        return &s[..0];
-    }
-    if to < from {
-        return &s[..0];
-    }
-    &s[from..to]
 }

@@ -6,10 +6,13 @@
 // follows from the list's own numbers and never from what sizing or the assembly answered.
 #![tactic(auto)]
 
+mod arrays;
 mod case;
 mod compare;
+mod decoded;
 mod file;
 mod input;
+mod layout;
 mod lent;
 
 pub use case::{Replayed, replay_case};

@@ -1,10 +1,11 @@
-use Rattle.replay_list.proofs.Decoded.{agreed}
+use Rattle.replay_list.proofs.Decoding.{agreed}
 use mathlib.Core.Path.{sym, ◌∙◌}
 use Rattle.replay_list.proofs.case.case_agrees.Goals as goal
 
-pub returns : goal.returns
-returns c =
+pub returns-then-same_answer : goal.returns-then-same_answer
+returns-then-same_answer c =
     λ e.
-    agreed _ _ _ _ _ _ _ _ c.job_at-job.ensures c.requires.places_value c.requires.starts_value (rw c.length_at.ensures at c.records_at-records.ensures) c.read_floats-floats.ensures c.read_numbers-numbers.ensures
-    c.requires.starts_bound.0 c.requires.starts_bound.1
-    (sym c.size-sized.ensures ∙ c.same_answer.ensures (c.if-not-same_answer.false) ∙ c.sizing_at.ensures) (c.assembly_agrees.ensures e)
+    let case = c.args.case.now in
+    let read = c.decode-decoded.ensures in
+    agreed case.start.list.now case.start.at _ _ _ case.places read.job_read read.records_read read.problem_read case.parts
+    (sym c.size.ensures ∙ c.same_answer.ensures c.if-same_answer.true ∙ (rw (c.to.ensures.0, c.to.ensures.1) at c.sizing_at-sized.ensures)) (c.assembly_agrees.ensures e)

@@ -1,6 +1,7 @@
-use Rattle.replay_list.proofs.Laws.{filled}
-use native.Mathlib.Omega.{arith}
+use Rattle.std.proofs.Common.{rules}
+use Rattle.replay_list.proofs.Laws.{made}
 use Rattle.replay_list.proofs.input.read_numbers.Goals as goal
 
+-- `replay_list::input::read_numbers` meets its contract: each call answers its number.
 pub returns : goal.returns
-returns c = filled 0 _ _ 64 c.loop-i.invariant.0 (λ j h. c.loop-i.invariant.1 j (omega arith))
+returns c = made _ _ _ (λ i y t k. search rules) _ _ c.from_fn.ensures.items

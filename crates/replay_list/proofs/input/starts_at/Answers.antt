@@ -11,17 +11,16 @@ use Rattle.replay_list.proofs.input.starts_at.Goals as goal
 
 pub loop-k-init : goal.loop-k-init
 unfolding start_of
-loop-k-init c = (omega arith, refl, below_more _ _ (below_none _) refl)
+loop-k-init c = (refl, below_more _ _ (below_none _) refl)
 
 pub loop-k-preserved : goal.loop-k-preserved
 unfolding start_of
 loop-k-preserved c =
     let l = c.loop-k in (
-      omega arith,
-      simp length-set l.invariant.1,
+      simp length-set l.invariant.0,
       stored 0 _ l.starts (l.k + 1) _ (omega arith)
-          (rw (c.floats_of.ensures, l.invariant.2 l.k (omega arith)) at c.past-next.ensures ∙ rw add-one refl) l.invariant.2,
+          (rw (c.floats_of.ensures, l.invariant.1 l.k (omega arith)) at c.past.ensures ∙ rw add-one refl) l.invariant.1,
     )
 
 pub returns : goal.returns
-returns c = filled 0 _ _ 19 c.loop-k.invariant.1 (λ j h. c.loop-k.invariant.2 j (omega arith))
+returns c = filled 0 _ _ 19 c.loop-k.invariant.0 (λ j h. c.loop-k.invariant.1 j (omega arith))

@@ -13,12 +13,10 @@ use borrow.Author.Tests.{le-leb, lt-leb}
 use Rattle.model.specs.declared.Job.{Job}
 use Rattle.model.specs.Problem.{Problem, problem}
 use Rattle.copp3_c.specs.declared.ObjectiveRecords.{ObjectiveRecords}
-use Rattle.copp3_c.specs.declared.AnswerRecord.{AnswerRecord}
 use Rattle.copp3_c.specs.Exported.{objective_of}
-use Rattle.replay_list.specs.declared.case.Held.{Held}
 use Rattle.replay_list.specs.declared.input.Places.{Places}
 use Rattle.replay_list.specs.File.{place_after, item_at}
-use Rattle.replay_list.specs.Format.{each, part, list_in, count_at, length_at, job_at, floats_of, start_of, starts_at, grid_place, numbers_place, numbers_end, tables_place, places_at, float_number, list_at, table_at, records_from, records_at, problem_with, problem_at, sizing_at, assembly_at, index_written, held_at, case_end}
+use Rattle.replay_list.specs.Format.{each, part, list_in, length_at, job_at, floats_of, start_of, starts_at, grid_place, numbers_place, numbers_end, tables_place, places_at, float_number, list_at, table_at, records_from, records_at, problem_with, problem_at, sizing_at, case_end}
 use Rattle.replay_list.specs.Agreement.{sized, assembled, lent_buffers, ResultAgrees, Agrees}
 use Rattle.replay_list.proofs.Laws.{get_d_each, part_each}
 
@@ -78,6 +76,10 @@ unfolding problem_with
 same_lists job records f g t0 t1 u0 u1 e p q =
     same_problem job records g (e 0 (lit< tt)) p q (e 3 (lit< tt)) (e 4 (lit< tt)) (e 5 (lit< tt)) (e 6 (lit< tt)) (e 7 (lit< tt)) (e 8 (lit< tt)) (e 9 (lit< tt)) (e 10 (lit< tt)) (e 11 (lit< tt)) (e 12 (lit< tt)) (e 13 (lit< tt)) (e 14 (lit< tt)) (e 15 (lit< tt)) (e 16 (lit< tt)) (e 17 (lit< tt))
 
+pub records_read : (s : List ℕ) (at : ℕ) (records : ObjectiveRecords) (places : Places) → places ≡ places_at s at → records ≡ records_from s places.records (length_at s at 18) → records ≡ records_at s at
+unfolding places_at
+records_read s at records places p r = rw p at r
+
 module _ (s : List ℕ) (at : ℕ) (job : Job) (records : ObjectiveRecords) (floats : List Float) (numbers starts : List ℕ) (places : Places)
     (job_is : job ≡ job_at s at) (places-are : places ≡ places_at s at) (starts-are : starts ≡ starts_at s at)
     (records-are : records ≡ records_from s places.records (length_at s at 18))
@@ -85,8 +87,7 @@ module _ (s : List ℕ) (at : ℕ) (job : Job) (records : ObjectiveRecords) (flo
     (numbers-are : numbers ≡ each (item_at s places.numbers) 64)
     (all : get_or starts 18 0 ≤ 128) (end : places.end ≤ 64) where
   same_records : records ≡ records_at s at
-  unfolding places_at
-  same_records = rw places-are at records-are
+  same_records = records_read s at records places places-are records-are
 
   same_floats : floats ≡ each (float_number s (grid_place at) (tables_place s at) (start_of s at 1)) 128
   unfolding places_at
@@ -125,19 +126,13 @@ module _ (s : List ℕ) (at : ℕ) (job : Job) (records : ObjectiveRecords) (flo
       (table_at s at 0 (length_at s at 1)) (table_at s at (length_at s at 1) (length_at s at 2)) list_is table_0 table_1
       ∙ rw (job_is, same_records) refl
 
-  pub agreed : sized job records decoded ≡ sizing_at s places.answers → ResultAgrees s places job.count (item_at s places.lengths) (assembled job records decoded (lent_buffers s places.lengths)) → Agrees s at
-  agreed sizing result =
-      record {
-        sizing_is = rw (problem_read, job_is, same_records, places-are) at sizing;
-        assembly_is = rw (problem_read, job_is, same_records, places-are) at result;
-      }
+-- a case agrees where its answers do
+pub agreed : (s : List ℕ) (at : ℕ) (job : Job) (records : ObjectiveRecords) (p : Problem) (places : Places) → job ≡ job_at s at → records ≡ records_at s at → p ≡ problem_at s at → places ≡ places_at s at
+    → sized job records p ≡ sizing_at s places.answers → ResultAgrees s places job.count (item_at s places.lengths) (assembled job records p (lent_buffers s places.lengths)) → Agrees s at
+agreed s at job records p places j r q l sizing result = record { sizing_is = rw (q, j, r, l) at sizing; assembly_is = rw (q, j, r, l) at result }
 
--- where the next case begins, and whether the case is whole
+-- whether the case is whole
 module _ (s : List ℕ) (at : ℕ) where
-  pub end_of : (places : Places) (answer : AnswerRecord) (count written : ℕ) (held : Held) → places ≡ places_at s at → answer ≡ assembly_at s places.answers → count ≡ count_at s at 3 → written ≡ index_written count answer → held ≡ held_at places.held answer written → held.end ≡ case_end s at
-  unfolding case_end
-  end_of places answer count written held p a c w h = cc
-
   pub cut_off : (next : ℕ) → next ≡ case_end s at → length s < next → false ≡ leb (case_end s at) (length s)
   cut_off next e h = sym (lt-leb (case_end s at) (length s) (omega arith))
 

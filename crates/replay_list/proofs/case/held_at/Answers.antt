@@ -1,7 +1,0 @@
-use Rattle.replay_list.specs.Format.{held_at}
-use Rattle.replay_list.proofs.case.held_at.Goals as goal
-
--- `replay_list::case::held_at` meets its contract: each place is found from the one before it.
-pub returns : goal.returns
-unfolding held_at
-returns c = cc
