@@ -18,10 +18,9 @@ ghost use Rattle.objectives.specs.Lends.{lends_of};
 ghost use Rattle.objectives.specs.Owned.{BuildsOwners};
 
 use buffers::put_owner;
+pub use input::ObjectiveInput;
 use model::{Buffers, Objective, Tally};
 use torque::ScaledTorque;
-
-pub use input::ObjectiveInput;
 
 // One objective. Linear has no rows: what it adds to the cost stands there from the start.
 fn objective(t: Tally, out: &mut Buffers, input: &ObjectiveInput, o: Objective) -> Tally
