@@ -1,17 +1,7 @@
--- The numbers of which document 01's counts are made, and bounds that keep their sums within 64 bits.
-use Rattle.std.specs.Prelude.{ℕ, ◌+◌, ◌*◌, ◌^◌, ◌≤◌, List}
+-- Bounds that keep the sums of document 01's counts within 64 bits.
+use Rattle.std.specs.Prelude.{ℕ, ◌+◌, ◌*◌, ◌^◌, ◌≤◌}
 use Rattle.model.specs.Refusals.{most_stations, most_joints, most_objectives}
-use Rattle.model.specs.Problem.{Problem, Path, Limits, n, m, ends, L}
-use Rattle.model.specs.Counts.{uppers, acc_inside, jerk_inside}
 use Rattle.model.specs.declared.FourCounts.{FourCounts}
-use Rattle.sizing.specs.declared.Measures.{Measures}
-
-abbrev pub measures : Path → ℕ → Limits → List ℕ → List ℕ → Measures
-measures q d l acc jerk =
-    record { d = d; n = n q; m = m q; ends = ends q; l = L q; uppers = uppers q l; acc = acc_inside q acc; jerk = jerk_inside q jerk }
-
-abbrev pub measures_of : Problem → Measures
-measures_of p = measures p.path p.torque.d p.limits p.acc.counts p.jerk.counts
 
 -- the acceleration rows of 4,097 stations, whose counts are of 32 bits
 abbrev pub acc_most : ℕ
@@ -34,17 +24,17 @@ objective_most = 2000000
 abbrev pub objectives_most : ℕ
 objectives_most = most_objectives * objective_most
 
--- what 4,097 stations, 32 joints and counts of 32 bits leave
-abbrev pub Bounded : Measures → Type 0
-Bounded s =
-    (s.d ≤ most_joints)
-    × (s.n ≤ 4096)
-    × (s.m ≤ 4096)
-    × (s.ends ≤ 2)
-    × (s.l ≤ 4096)
-    × (s.uppers ≤ 4099)
-    × (s.acc ≤ acc_most)
-    × (s.jerk ≤ jerk_most)
+-- what 4,097 stations, 32 joints and counts of 32 bits leave of d, n, m, p, L, u, A' and J'
+abbrev pub Bounded : ℕ → ℕ → ℕ → ℕ → ℕ → ℕ → ℕ → ℕ → Type 0
+Bounded d n m ends l uppers acc jerk =
+    (d ≤ most_joints)
+    × (n ≤ 4096)
+    × (m ≤ 4096)
+    × (ends ≤ 2)
+    × (l ≤ 4096)
+    × (uppers ≤ 4099)
+    × (acc ≤ acc_most)
+    × (jerk ≤ jerk_most)
 
 -- each of the four is at most b
 abbrev pub Few : ℕ → FourCounts → Type 0
