@@ -1,41 +1,39 @@
 -- Checks one after another: what a call found decides, or hands on to the rest.
-use Prim.Native.Nat.{ℕ, ◌+◌}
-use mathlib.Core.Path.{◌≡◌, refl, sym, ◌∙◌}
-use lib.Dec.{leb}
-use lib.ListN.{length}
-use Rattle.model.specs.Lists.{total}
-use Rattle.model.specs.Problem.{Problem, objectives, n}
-use Rattle.model.specs.Verdicts.{◌then◌, refuse}
-use Rattle.model.specs.Refusals.{boundary_refusal, grid_refusal, setup_refusal, tables_refusal, bounds_refusal, refusal}
-use Rattle.model.specs.declared.Verdict.{Verdict}
-use Rattle.model.specs.declared.Verdict.TheVariants.{Accepted, Refused}
-use Rattle.checks.specs.Groups.{counts_lengths, rows_refusal, standard_lengths, objective_lengths}
+use Prim.Native.Nat.{ℕ}
+use mathlib.Core.Path.{◌≡◌, refl, ◌∙◌}
+use mathlib.Core.Bool.{Bool, true, false}
+use Rattle.std.specs.Prelude.{Ok, Err}
+use Rattle.model.specs.Problem.{Problem}
+use Rattle.model.specs.Verdicts.{Verdict, accepted, refused, ◌then◌, refuse}
+use Rattle.model.specs.Refusals.{tables_refusal, bounds_refusal, refusal}
+use Rattle.model.specs.declared.Refusal.{Refusal}
+use Rattle.checks.specs.Groups.{job_refusal, groups}
 
--- a refusal decides, and after what is accepted the rest decides
-pub stop : {v a : Verdict} (b : Verdict) → v ≡ a → {r k : ℕ} → v ≡ Refused r k → v ≡ (a then b)
+-- after what is accepted the rest decides, and a refusal decides
+pub then_ok : {a b v : Verdict} → v ≡ a → v ≡ accepted → b ≡ (a then b)
 unfolding ◌then◌
-stop b e f = e ∙ rw (sym e ∙ f) refl
+then_ok p q = rw (← p, q) refl
 
-pub pass : {v a b x : Verdict} → v ≡ a → v ≡ Accepted → x ≡ b → x ≡ (a then b)
+pub then_err : {a v r : Verdict} (b : Verdict) → v ≡ a → (e : Refusal) → v ≡ Err e → r ≡ Err e → r ≡ (a then b)
 unfolding ◌then◌
-pass e f g = g ∙ rw (sym e ∙ f) refl
+then_err b p e q h = rw (← p, q) h
 
-pub both : {v a b a' b' : Verdict} → v ≡ (a then b) → a ≡ a' → b ≡ b' → v ≡ (a' then b')
-both e f g = rw (← f, ← g) e
+pub refuse_true : (r k : ℕ) {t : Bool} → t ≡ true → refused r k ≡ refuse r k t
+unfolding refuse
+refuse_true r k h = rw h refl
+
+pub refuse_false : (r k : ℕ) {t : Bool} → t ≡ false → accepted ≡ refuse r k t
+unfolding refuse
+refuse_false r k h = rw h refl
 
 pub then_assoc : (a b c : Verdict) → ((a then b) then c) ≡ (a then b then c)
 unfolding ◌then◌
-then_assoc Accepted b c = refl
-then_assoc (Refused r k) b c = refl
+then_assoc (Ok tt) b c = refl
+then_assoc (Err e) b c = refl
 
--- refusals 14 to 16 by groups of tables
-abbrev pub groups : Problem → Verdict
-groups p =
-    refuse 14 0 (leb (n p.path) (p.path.N0 + p.path.N1))
-    then counts_lengths (n p.path + 1) (length p.acc.counts) (length p.jerk.counts)
-    then rows_refusal (n p.path + 1) p.acc.counts p.jerk.counts
-    then standard_lengths (n p.path + 1) (total p.acc.counts) (total p.jerk.counts) (length p.limits.amax) (length p.acc.a) (length p.acc.b) (length p.acc.max) (length p.jerk.a) (length p.jerk.b) (length p.jerk.c) (length p.jerk.max)
-    then objective_lengths (objectives p) (n p.path + 1) p.torque.d p.path.N0 p.path.N1 (length p.thermal) (length p.torque.a) (length p.torque.b) (length p.torque.g) (length p.roots.start) (length p.roots.end)
+-- a chain whose first two checks stand in a group of their own
+pub in_group : (a b c : Verdict) {v : Verdict} → v ≡ (a then b then c) → v ≡ ((a then b) then c)
+in_group a b c e = rw then_assoc e
 
 grouped : (p : Problem) → groups p ≡ tables_refusal p
 unfolding tables_refusal
@@ -45,8 +43,6 @@ pub by_groups : (p : Problem) {v : Verdict} → v ≡ groups p → v ≡ tables_
 by_groups p e = e ∙ grouped p
 
 -- refusals 1 to 18 by parts
-pub by_parts : (p : Problem) {v : Verdict}
-    → v ≡ ((boundary_refusal p.boundary then grid_refusal p.path.grid then setup_refusal p.torque.d p.count p.slots (n p.path + 1) p.pool) then tables_refusal p then bounds_refusal p.path p.limits)
-    → v ≡ refusal p
+pub by_parts : (p : Problem) {v : Verdict} → v ≡ (job_refusal p then tables_refusal p then bounds_refusal p.path p.limits) → v ≡ refusal p
 unfolding refusal
 by_parts p e = e ∙ simp then_assoc

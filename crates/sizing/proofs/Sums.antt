@@ -1,6 +1,5 @@
 -- Sums over the numbers from k to below e.
-use Prim.Native.Nat.{ℕ, zero, suc, ◌+◌, ◌-◌, ◌*◌, ◌≤◌, ◌<◌}
-use native.Mathlib.Nat.{mul-le-mul}
+use Prim.Native.Nat.{ℕ, zero, suc, ◌+◌, ◌-◌, ◌<◌}
 use native.Mathlib.Omega.{arith}
 use native.Mathlib.Numerals.{add-one}
 use mathlib.Core.Path.{◌≡◌, ap}
@@ -9,9 +8,6 @@ use Rattle.model.specs.Lists.{sum_over}
 module _ (f : ℕ → ℕ) where
   pub sum_next : (k e : ℕ) → k < e → sum_over f k (e - k) ≡ f k + sum_over f (k + 1) (e - (k + 1))
   sum_next k e h = let z : e - k ≡ suc (e - (k + 1)) = omega arith in rw (z, add-one k)
-
-  pub sum_none : (k e : ℕ) → e ≤ k → sum_over f k (e - k) ≡ 0
-  sum_none k e h = let z : e - k ≡ 0 = omega arith in rw z
 
   -- the last number of a sum
   sum_last : (k c : ℕ) → sum_over f k (suc c) ≡ sum_over f k c + f (k + c)
@@ -32,6 +28,3 @@ module _ (f : ℕ → ℕ) where
       let g : f (k + 1 + c) ≡ f (k + suc c) = ap f z in
       let y : suc c - 1 ≡ c = omega arith in
       rw y (omega arith)
-
-pub product : (a b c d : ℕ) → a ≤ c → b ≤ d → a * b ≤ c * d
-product a b c d x y = mul-le-mul x y

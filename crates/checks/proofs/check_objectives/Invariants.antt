@@ -1,11 +1,9 @@
-use Prim.Native.Nat.{◌-◌, ◌≤◌}
 use mathlib.Core.Path.{◌≡◌}
-use lib.ListN.{take, drop}
+use lib.ListN.{length, drop}
 use Rattle.model.specs.Refusals.{objectives_refusal}
 use Rattle.checks.proofs.check_objectives.Given as goal
 
 abbrev pub invariant-loop-i : goal.invariant-loop-i
-invariant-loop-i l = (l.i ≤ l.count) × (objectives_refusal l.pool l.d l.stations 0 (take l.count l.objectives) ≡ objectives_refusal l.pool l.d l.stations l.i (drop l.i (take l.count l.objectives)))
-
-abbrev pub decreases-loop-i : goal.decreases-loop-i
-decreases-loop-i l = l.count - l.i
+invariant-loop-i l =
+    let p = l.problem in
+    objectives_refusal p.pool.now p.job.d (length p.grid.now) 0 l.objectives ≡ objectives_refusal p.pool.now p.job.d (length p.grid.now) l.i (drop l.i l.objectives)

@@ -1,16 +1,12 @@
-use Rattle.checks.proofs.Chain.{stop, pass}
-use mathlib.Core.Path.{sym, ◌∙◌}
-use Rattle.model.specs.Refusals.{scales_refusal}
+use Rattle.std.proofs.Common.{arith}
 use Rattle.checks.proofs.Within.{within}
 use Rattle.checks.proofs.check_scaled.Goals as goal
 
-pub returns-in_default : goal.returns-in_default
-unfolding scales_refusal
-returns-in_default c = stop _ c.check_list-v.ensures c.in_default.is
+pub overflow_add-scales : goal.overflow_add-scales
+overflow_add-scales c = omega (arith, within _ _ _ _ _ c.check_list.ensures c.in_ok-check_list.was)
 
-pub check_scales-requires : goal.check_scales-requires
-check_scales-requires c = within _ _ _ _ _ (sym c.check_list-v.ensures ∙ c.in-Accepted.is)
+pub offset_bounds-pool-start : goal.offset_bounds-pool-start
+offset_bounds-pool-start c = omega (arith, within _ _ _ _ _ c.check_list.ensures c.in_ok-check_list.was)
 
-pub returns : goal.returns
-unfolding scales_refusal
-returns c = pass c.check_list-v.ensures c.in-Accepted.is (c.check_scales.ensures)
+pub slice_bounds-scales-end : goal.slice_bounds-scales-end
+slice_bounds-scales-end c = omega (arith, within _ _ _ _ _ c.check_list.ensures c.in_ok-check_list.was)

@@ -1,9 +1,0 @@
-use mathlib.Core.Path.{ap, ◌∙◌}
-use Rattle.model.specs.Problem.{some, uses_root}
-use Rattle.model.specs.declared.Objective.{Objective}
-use mathlib.Core.List.{List}
-use Rattle.sizing.proofs.Additions.{whole}
-use Rattle.sizing.proofs.counted.Goals as goal
-
-pub returns : goal.returns
-returns c = λ p e f. whole p f (c.standard_counts-standard.ensures.0 p e) (c.root_counts-root.ensures.0 p e (c.has_root.ensures ∙ ap (λ (l : List Objective). some uses_root l) f)) c.sum-before.ensures (c.objectives_counts-after.ensures.0 p e) c.sum.ensures

@@ -1,0 +1,41 @@
+-- Bounds that keep the sums of document 01's counts within 64 bits.
+use Rattle.std.specs.Prelude.{ℕ, ◌+◌, ◌*◌, ◌^◌, ◌≤◌}
+use Rattle.model.specs.Refusals.{most_stations, most_joints, most_objectives}
+use Rattle.model.specs.declared.FourCounts.{FourCounts}
+
+-- the acceleration rows of 4,097 stations, whose counts are of 32 bits
+abbrev pub acc_most : ℕ
+acc_most = most_stations * 2 ^ 32
+
+-- the jerk rows of the moving intervals: each station between the ends counts twice, and the two at the ends once
+abbrev pub jerk_most : ℕ
+jerk_most = 2 * acc_most + 2 * 2 ^ 32
+
+-- round numbers above the standard counts, the root stage's, one objective's and those of 16
+abbrev pub standard_most : ℕ
+standard_most = 200000000000000
+
+abbrev pub root_most : ℕ
+root_most = 20000
+
+abbrev pub objective_most : ℕ
+objective_most = 2000000
+
+abbrev pub objectives_most : ℕ
+objectives_most = most_objectives * objective_most
+
+-- what 4,097 stations, 32 joints and counts of 32 bits leave of d, n, m, p, L, u, A' and J'
+abbrev pub Bounded : ℕ → ℕ → ℕ → ℕ → ℕ → ℕ → ℕ → ℕ → Type 0
+Bounded d n m ends l uppers acc jerk =
+    (d ≤ most_joints)
+    × (n ≤ 4096)
+    × (m ≤ 4096)
+    × (ends ≤ 2)
+    × (l ≤ 4096)
+    × (uppers ≤ 4099)
+    × (acc ≤ acc_most)
+    × (jerk ≤ jerk_most)
+
+-- each of the four is at most b
+abbrev pub Few : ℕ → FourCounts → Type 0
+Few b t = (t.entries ≤ b) × (t.rows ≤ b) × (t.cones ≤ b) × (t.columns ≤ b)
