@@ -4,12 +4,13 @@
 
 ghost use Rattle.std.specs.Prelude.{◌≡◌, not, ◌≤◌, ltb};
 ghost use Rattle.model.specs.Refusals.{most_objectives};
+ghost use Rattle.model.specs.declared.rule.Rule.TheVariants.{NumberNotFinite, IndexTooShort};
 ghost use Rattle.model.specs.Verdicts.{◌then◌, refuse};
 ghost use Rattle.model.specs.Owners.{index_places};
 ghost use Rattle.model.specs.Answers.{lengths, room_refusal, verdict_of, answered, assembly};
 ghost use Rattle.model.specs.Lent.{problem_of, buffers_of, SameBuffers};
 
-use model::{Answer, Buffers, FourCounts, Problem, Verdict};
+use model::{Answer, Buffers, FourCounts, Problem, Rule, Verdict};
 use passes::{every_number, write};
 
 // 19, then 28 for an index so long, then 20, of the four counts, the number of objectives and of whether every number is finite.
@@ -21,11 +22,11 @@ fn room_and_finite(
     long: usize,
 ) -> Verdict
     requires { objectives ≤ most_objectives }
-    ensures { result ≡ (room_refusal counts lengths then refuse 28 0 (ltb long (index_places objectives)) then refuse 20 0 (not finite)) }
+    ensures { result ≡ (room_refusal counts lengths then refuse IndexTooShort 0 (ltb long (index_places objectives)) then refuse NumberNotFinite 0 (not finite)) }
 {
     sizing::room(counts, lengths)?;
-    checks::refuse_if(28, 0, long < 8 * (objectives + 2))?;
-    checks::refuse_if(20, 0, !finite)
+    Rule::IndexTooShort.refuse_if(0, long < 8 * (objectives + 2))?;
+    Rule::NumberNotFinite.refuse_if(0, !finite)
 }
 
 // The lengths of buffers 0 to 6.

@@ -1,10 +1,8 @@
 -- Checks one after another: what a call found decides, or hands on to the rest.
-use Prim.Native.Nat.{ℕ}
 use mathlib.Core.Path.{◌≡◌, refl, ◌∙◌}
-use mathlib.Core.Bool.{Bool, true, false}
 use Rattle.std.specs.Prelude.{Ok, Err}
 use Rattle.model.specs.Problem.{Problem}
-use Rattle.model.specs.Verdicts.{Verdict, accepted, refused, ◌then◌, refuse}
+use Rattle.model.specs.Verdicts.{Verdict, accepted, ◌then◌}
 use Rattle.model.specs.Refusals.{tables_refusal, bounds_refusal, refusal}
 use Rattle.model.specs.declared.Refusal.{Refusal}
 use Rattle.checks.specs.Groups.{job_refusal, groups}
@@ -17,14 +15,6 @@ then_ok p q = rw (← p, q) refl
 pub then_err : {a v r : Verdict} (b : Verdict) → v ≡ a → (e : Refusal) → v ≡ Err e → r ≡ Err e → r ≡ (a then b)
 unfolding ◌then◌
 then_err b p e q h = rw (← p, q) h
-
-pub refuse_true : (r k : ℕ) {t : Bool} → t ≡ true → refused r k ≡ refuse r k t
-unfolding refuse
-refuse_true r k h = rw h refl
-
-pub refuse_false : (r k : ℕ) {t : Bool} → t ≡ false → accepted ≡ refuse r k t
-unfolding refuse
-refuse_false r k h = rw h refl
 
 pub then_assoc : (a b c : Verdict) → ((a then b) then c) ≡ (a then b then c)
 unfolding ◌then◌

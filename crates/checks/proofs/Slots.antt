@@ -13,11 +13,12 @@ use Rattle.model.specs.Refusals.{lists_refusal, objectives_refusal}
 use Rattle.std.specs.Prelude.{Err}
 use Rattle.model.specs.declared.Refusal.{Refusal}
 use Rattle.model.specs.declared.Objective.{Objective}
+use Rattle.model.specs.declared.rule.Rule.TheVariants.{WeightUnfit}
 use Rattle.checks.proofs.Chain.{then_assoc, then_ok, then_err}
 
 module _ (pool : List Float) (d stations : ℕ) (os : List Objective) (i : ℕ) (so_far : objectives_refusal pool d stations 0 os ≡ objectives_refusal pool d stations i (drop i os)) where
   abbrev item : Objective → Verdict
-  item o = refuse 11 i (unfit (weight o)) then lists_refusal pool d stations i o
+  item o = refuse WeightUnfit i (unfit (weight o)) then lists_refusal pool d stations i o
 
   step : (o : Objective) → i < length os → objectives_refusal pool d stations 0 os ≡ (item (get_or os i o) then objectives_refusal pool d stations (i + 1) (drop (i + 1) os))
   unfolding objectives_refusal

@@ -15,6 +15,7 @@ use Rattle.checks.specs.Fitting.{Fitting}
 use Rattle.model.specs.Verdicts.{Verdict, accepted, refuse}
 use Rattle.model.specs.Refusals.{list_refusal, grid_refusal, setup_refusal, tables_refusal, refusal}
 use Rattle.model.specs.declared.Objective.{Objective}
+use Rattle.model.specs.declared.rule.Rule.TheVariants.{TooManyObjectives, ListUnfit, NoMovingInterval}
 use Rattle.model.proofs.Passes.{then_passes, refuse_passes, table_passes}
 
 or_right : (a b : Bool) → (a || b) ≡ false → b ≡ false
@@ -25,10 +26,10 @@ or_right false b e = e
 pub within : (pool : List Float) (i long start len : ℕ) {v : Verdict} → v ≡ list_refusal pool i long start len → v ≡ accepted → start + len ≤ length pool
 unfolding list_refusal
 within pool i long start len f e =
-    ltb-false _ _ (or_right (not (eqb len long)) _ ((refuse_passes 12 i _).0 (sym f ∙ e)))
+    ltb-false _ _ (or_right (not (eqb len long)) _ ((refuse_passes ListUnfit i _).0 (sym f ∙ e)))
 
-pub few : (count : ℕ) → refuse 10 0 (ltb 16 count) ≡ accepted → count ≤ 16
-few count e = ltb-false _ _ ((refuse_passes 10 0 _).0 e)
+pub few : (count : ℕ) → refuse TooManyObjectives 0 (ltb 16 count) ≡ accepted → count ≤ 16
+few count e = ltb-false _ _ ((refuse_passes TooManyObjectives 0 _).0 e)
 
 pub grid_within : (g : List Float) → grid_refusal g ≡ accepted → (3 ≤ length g) × (length g ≤ 4097)
 unfolding grid_refusal
@@ -74,7 +75,7 @@ fitting p e =
     record {
       least = g.0;
       most = g.1;
-      span = leb-false _ _ ((refuse_passes 14 0 _).0 t.0);
+      span = leb-false _ _ ((refuse_passes NoMovingInterval 0 _).0 t.0);
       joints = s.0;
       jobs = s.1;
       acc_rows = table_passes 0 _ _ t.1.0;

@@ -2,6 +2,7 @@
 use Rattle.std.specs.Prelude.{ℕ, ◌+◌, ◌-◌, ◌*◌, max, ◌||◌, Bool, ltb, leb, length, get_or}
 use Rattle.model.specs.Lists.{total}
 use Rattle.model.specs.Problem.{Problem, objectives, n, some, is_thermal, is_torque, is_linear}
+use Rattle.model.specs.declared.rule.Rule.TheVariants.{NoMovingInterval, TooManyRows}
 use Rattle.model.specs.Verdicts.{Verdict, ◌then◌, refuse, lowest, itself}
 use Rattle.model.specs.Refusals.{boundary_refusal, grid_refusal, setup_refusal, table, table_if, most_rows}
 
@@ -18,8 +19,8 @@ module _ (p : Problem) where
   -- 16
   abbrev pub rows_refusal : Verdict
   rows_refusal =
-      lowest 16 itself (λ k. ltb most_rows (get_or p.acc.counts k 0)) 0 (n p.path + 1)
-      then lowest 16 itself (λ k. ltb most_rows (get_or p.jerk.counts k 0)) 0 (n p.path + 1)
+      lowest TooManyRows itself (λ k. ltb most_rows (get_or p.acc.counts k 0)) 0 (n p.path + 1)
+      then lowest TooManyRows itself (λ k. ltb most_rows (get_or p.jerk.counts k 0)) 0 (n p.path + 1)
 
   -- tables 3 to 5, then 6 to 9, for so many rows
   abbrev pub acc_lengths : ℕ → Verdict
@@ -52,4 +53,4 @@ module _ (p : Problem) where
   -- 14 to 16
   abbrev pub groups : Verdict
   groups =
-      refuse 14 0 (leb (n p.path) (p.path.N0 + p.path.N1)) then counts_lengths then rows_refusal then standard_lengths then objective_lengths
+      refuse NoMovingInterval 0 (leb (n p.path) (p.path.N0 + p.path.N1)) then counts_lengths then rows_refusal then standard_lengths then objective_lengths

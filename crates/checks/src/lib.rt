@@ -8,12 +8,13 @@ ghost use Rattle.model.specs.Numbers.{unusable, unfit};
 ghost use Rattle.model.specs.Problem.{weight};
 ghost use Rattle.model.specs.Lists.{total};
 ghost use Rattle.model.specs.Lent.{problem_of};
+ghost use Rattle.model.specs.declared.rule.Rule.TheVariants.{WeightUnfit, TooManyRows};
 ghost use Rattle.model.specs.Verdicts.{◌then◌, refuse, lowest, itself};
 ghost use Rattle.model.specs.Refusals.{first_refusal, signs_refusal, boundary_refusal, grid_refusal, list_refusal, scales_refusal, lists_refusal, objectives_refusal, setup_refusal, table, table_if, unusable_end, crossed, refusal, most_stations, most_rows};
 ghost use Rattle.checks.specs.Groups.{job_refusal};
 
 use limited::Limited;
-use model::{Boundary, Bounds, Ends, Job, Objective, Problem, Refusal, Verdict};
+use model::{Boundary, Bounds, Ends, Job, Objective, Problem, Rule, Verdict};
 use numbers::is_finite;
 
 // NaN or minus infinity.
@@ -31,21 +32,9 @@ fn is_unfit(x: f64) -> bool
     !is_finite(x) | (x < 0.0)
 }
 
-// A refusal's number is a usize, for document 01 and C tell a refusal by its number, and a narrower type would ask more of callers.
-#[tactic(auto, using(crate::proofs::Chain::refuse_true, crate::proofs::Chain::refuse_false))]
-pub fn refuse_if(number: usize, place: usize, test: bool) -> Verdict
-    ensures { result ≡ refuse number place test }
-{
-    if test {
-        Err(Refusal { number, place })
-    } else {
-        Ok(())
-    }
-}
-
-// The refusal for the lowest of the numbers from `from` to below `to` that fails.
+// A rule's refusal for the lowest of the numbers from `from` to below `to` that fails.
 fn check_each<P: Fn(usize) -> usize, F: Fn(usize) -> bool>(
-    number: usize,
+    rule: Rule,
     from: usize,
     to: usize,
     place: P,
@@ -57,10 +46,10 @@ fn check_each<P: Fn(usize) -> usize, F: Fn(usize) -> bool>(
         → count ≡ to - from
         → ((i y : ℕ) → from ≤ i → i < to → P.post place i y → y ≡ at i)
         → ((i : ℕ) (b : Bool) → from ≤ i → i < to → F.post fails i b → b ≡ test i)
-        → result ≡ lowest number at test from count }
+        → result ≡ lowest rule at test from count }
 {
     for k in from..to {
-        refuse_if(number, place(k), fails(k))?;
+        rule.refuse_if(place(k), fails(k))?;
     }
     Ok(())
 }
@@ -70,10 +59,10 @@ fn check_each<P: Fn(usize) -> usize, F: Fn(usize) -> bool>(
 fn check_first(boundary: Boundary) -> Verdict
     ensures { result ≡ first_refusal boundary }
 {
-    refuse_if(1, 0, !is_finite(boundary.a0))?;
-    refuse_if(1, 1, !is_finite(boundary.a1))?;
-    refuse_if(1, 2, !is_finite(boundary.b0))?;
-    refuse_if(1, 3, !is_finite(boundary.b1))
+    Rule::BoundaryNotFinite.refuse_if(0, !is_finite(boundary.a0))?;
+    Rule::BoundaryNotFinite.refuse_if(1, !is_finite(boundary.a1))?;
+    Rule::BoundaryNotFinite.refuse_if(2, !is_finite(boundary.b0))?;
+    Rule::BoundaryNotFinite.refuse_if(3, !is_finite(boundary.b1))
 }
 
 // Refusals 2 and 3.
@@ -81,10 +70,10 @@ fn check_first(boundary: Boundary) -> Verdict
 fn check_signs(boundary: Boundary) -> Verdict
     ensures { result ≡ signs_refusal boundary }
 {
-    refuse_if(2, 0, boundary.a0 < 0.0)?;
-    refuse_if(2, 1, boundary.a1 < 0.0)?;
-    refuse_if(3, 0, (boundary.a0 == 0.0) & (boundary.b0 < 0.0))?;
-    refuse_if(3, 1, (boundary.a1 == 0.0) & (0.0 < boundary.b1))
+    Rule::BoundaryNegative.refuse_if(0, boundary.a0 < 0.0)?;
+    Rule::BoundaryNegative.refuse_if(1, boundary.a1 < 0.0)?;
+    Rule::BackwardAtRest.refuse_if(0, (boundary.a0 == 0.0) & (boundary.b0 < 0.0))?;
+    Rule::BackwardAtRest.refuse_if(1, (boundary.a1 == 0.0) & (0.0 < boundary.b1))
 }
 
 fn check_boundary(boundary: Boundary) -> Verdict
@@ -100,10 +89,22 @@ fn check_grid(grid: &[f64]) -> Verdict
     ensures { result ≡ grid_refusal grid.now }
 {
     let stations = grid.len();
-    refuse_if(4, 0, stations < 3)?;
-    refuse_if(5, 0, 4097 < stations)?;
-    check_each(6, 0, stations, |k| k, |k| !is_finite(grid[k]))?;
-    check_each(7, 1, stations, |k| k, |k| !(grid[k - 1] < grid[k]))
+    Rule::TooFewStations.refuse_if(0, stations < 3)?;
+    Rule::TooManyStations.refuse_if(0, 4097 < stations)?;
+    check_each(
+        Rule::GridNotFinite,
+        0,
+        stations,
+        |k| k,
+        |k| !is_finite(grid[k]),
+    )?;
+    check_each(
+        Rule::GridNotRising,
+        1,
+        stations,
+        |k| k,
+        |k| !(grid[k - 1] < grid[k]),
+    )
 }
 
 // Whether a part ends past the pool; start + len may pass 64 bits.
@@ -118,7 +119,7 @@ fn is_past(pool: usize, start: usize, len: usize) -> bool
 fn check_list(pool: &[f64], place: usize, long: usize, start: usize, len: usize) -> Verdict
     ensures { result ≡ list_refusal pool.now place long start len }
 {
-    refuse_if(12, place, (len != long) | is_past(pool.len(), start, len))
+    Rule::ListUnfit.refuse_if(place, (len != long) | is_past(pool.len(), start, len))
 }
 
 // Refusals 12 and 13 of an objective with d scales.
@@ -128,7 +129,7 @@ fn check_scaled(pool: &[f64], d: usize, place: usize, start: usize, len: usize) 
 {
     check_list(pool, place, d, start, len)?;
     let scales = &pool[start..start + len];
-    check_each(13, 0, len, |_| place, |j| is_unfit(scales[j]))
+    check_each(Rule::ScaleUnfit, 0, len, |_| place, |j| is_unfit(scales[j]))
 }
 
 // Refusals 12 and 13 of an objective.
@@ -174,9 +175,9 @@ fn weight_of(o: Objective) -> f64
 
 // Refusals 11 to 13 of an objective.
 fn check_objective(problem: &Problem, place: usize, o: Objective) -> Verdict
-    ensures { result ≡ (refuse 11 place (unfit (weight o)) then lists_refusal problem.now.pool.now problem.now.job.d (length problem.now.grid.now) place o) }
+    ensures { result ≡ (refuse WeightUnfit place (unfit (weight o)) then lists_refusal problem.now.pool.now problem.now.job.d (length problem.now.grid.now) place o) }
 {
-    refuse_if(11, place, is_unfit(weight_of(o)))?;
+    Rule::WeightUnfit.refuse_if(place, is_unfit(weight_of(o)))?;
     check_lists(problem, place, o)
 }
 
@@ -197,9 +198,9 @@ fn check_setup(problem: &Problem) -> Verdict
     ensures { result ≡ setup_refusal problem.now.job.d problem.now.job.count problem.now.objectives (length problem.now.grid.now) problem.now.pool.now }
 {
     let Job { d, count, .. } = problem.job;
-    refuse_if(8, 0, (d == 0) | (32 < d))?;
-    refuse_if(9, 0, count == 0)?;
-    refuse_if(10, 0, 16 < count)?;
+    Rule::DimensionOutOfRange.refuse_if(0, (d == 0) | (32 < d))?;
+    Rule::NoObjective.refuse_if(0, count == 0)?;
+    Rule::TooManyObjectives.refuse_if(0, 16 < count)?;
     check_objectives(problem, &problem.objectives[..count])
 }
 
@@ -215,7 +216,7 @@ fn is_still(n: usize, ends: Ends) -> bool
 fn check_table(t: usize, have: usize, need: usize) -> Verdict
     ensures { result ≡ table t have need }
 {
-    refuse_if(15, t, have != need)
+    Rule::TableLength.refuse_if(t, have != need)
 }
 
 // The same of a table that may not count.
@@ -223,15 +224,15 @@ fn check_table(t: usize, have: usize, need: usize) -> Verdict
 fn check_table_if(counts: bool, t: usize, have: usize, need: usize) -> Verdict
     ensures { result ≡ table_if counts t have need }
 {
-    refuse_if(15, t, counts & (have != need))
+    Rule::TableLength.refuse_if(t, counts & (have != need))
 }
 
 // Refusal 16 within a table.
 fn check_rows(rows: &[u32], stations: usize) -> Verdict
     requires { stations ≤ length rows.now }
-    ensures { result ≡ lowest 16 itself (λ k. ltb most_rows (get_or rows.now k 0)) 0 stations }
+    ensures { result ≡ lowest TooManyRows itself (λ k. ltb most_rows (get_or rows.now k 0)) 0 stations }
 {
-    check_each(16, 0, stations, |k| k, |k| 256 < rows[k])
+    check_each(Rule::TooManyRows, 0, stations, |k| k, |k| 256 < rows[k])
 }
 
 // The sum of a table of row counts: 4,097 numbers of 32 bits fit 64 bits.

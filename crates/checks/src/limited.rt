@@ -11,9 +11,9 @@ ghost use Rattle.checks.specs.Groups.{counts_lengths, rows_refusal, acc_lengths,
 
 use crate::{
     check_each, check_rows, check_table, check_table_if, is_crossed, is_still, is_unusable,
-    is_unusable_end, refuse_if, total_rows,
+    is_unusable_end, total_rows,
 };
-use model::{Acceleration, Jerk, Job, Objective, Problem, Torque, Verdict};
+use model::{Acceleration, Jerk, Job, Objective, Problem, Rule, Torque, Verdict};
 use objective_kinds::{any_is, is_linear, is_thermal, is_torque};
 
 #[derive(Clone, Copy)]
@@ -142,7 +142,7 @@ impl<'a> Limited<'a> {
     {
         let problem = self.problem;
         let still = is_still(problem.grid.len() - 1, problem.job.ends);
-        refuse_if(14, 0, still)?;
+        Rule::NoMovingInterval.refuse_if(0, still)?;
         self.check_counts()?;
         self.check_all_rows()?;
         self.check_standard_lengths()?;
@@ -164,10 +164,16 @@ impl<'a> Limited<'a> {
         } = problem.job;
         let amax = problem.amax;
         let to = problem.grid.len() - 1 - ends.n1;
-        refuse_if(17, 0, is_unusable_end(ends.n0, start))?;
-        refuse_if(17, 1, is_unusable_end(ends.n1, end))?;
-        check_each(17, ends.n0 + 1, to, |k| 2 + k, |k| is_unusable(amax[k]))?;
-        refuse_if(18, 0, is_crossed(ends.n0, start))?;
-        refuse_if(18, 1, is_crossed(ends.n1, end))
+        Rule::BoundUnusable.refuse_if(0, is_unusable_end(ends.n0, start))?;
+        Rule::BoundUnusable.refuse_if(1, is_unusable_end(ends.n1, end))?;
+        check_each(
+            Rule::BoundUnusable,
+            ends.n0 + 1,
+            to,
+            |k| 2 + k,
+            |k| is_unusable(amax[k]),
+        )?;
+        Rule::BoundsCrossed.refuse_if(0, is_crossed(ends.n0, start))?;
+        Rule::BoundsCrossed.refuse_if(1, is_crossed(ends.n1, end))
     }
 }

@@ -18,6 +18,8 @@ use Rattle.model.specs.Answers.{Buffers, buffers, told, answered, outcome, lengt
 use Rattle.model.specs.Answers as answers
 use Rattle.model.specs.Owners.{index, index_places}
 use Rattle.std.specs.Prelude.{Ok}
+use Rattle.model.specs.declared.rule.Rule.{Rule}
+use Rattle.model.specs.declared.rule.Rule.TheVariants.{NumberNotFinite, IndexTooShort}
 use Rattle.model.specs.Verdicts.{Verdict}
 use Rattle.model.specs.Verdicts as verdicts
 use Rattle.model.specs.Counts.{four_counts}
@@ -73,18 +75,18 @@ module _ (p : Problem) {R C : List ℕ} {W H : List Float} {K D : List ℕ} {Q :
 -- ---- the answers
 
 module _ (p : Problem) (have : List ℕ) (long : ℕ) {v : Verdict} (e : v ≡ refusal p) where
-  pub stopped : {r k : ℕ} → v ≡ verdicts.refused r k → v ≡ verdict_of p have long
+  pub stopped : {r : Rule} {k : ℕ} → v ≡ verdicts.refused r k → v ≡ verdict_of p have long
   unfolding ◌then◌
   stopped f = rw (sym e ∙ f) f
 
   pub passed : {t : FourCounts} {count : ℕ} {ok : Bool} {u : Verdict} → v ≡ verdicts.accepted → t ≡ counts p → count ≡ length (objectives p) → ok ≡ every_finite p
-      → u ≡ (room_refusal t have then refuse 28 0 (ltb long (index_places count)) then refuse 20 0 (not ok)) → u ≡ verdict_of p have long
+      → u ≡ (room_refusal t have then refuse IndexTooShort 0 (ltb long (index_places count)) then refuse NumberNotFinite 0 (not ok)) → u ≡ verdict_of p have long
   unfolding ◌then◌ index_refusal finite_refusal
   passed f same few g h =
-      rw (sym e ∙ f) (h ∙ (λ i. room_refusal (same i) have then refuse 28 0 (ltb long (index_places (few i))) then refuse 20 0 (not (g i))))
+      rw (sym e ∙ f) (h ∙ (λ i. room_refusal (same i) have then refuse IndexTooShort 0 (ltb long (index_places (few i))) then refuse NumberNotFinite 0 (not (g i))))
 
 module _ (p : Problem) (b : Buffers) {v : Verdict} (e : v ≡ verdict_of p (lengths b) (length b.index)) where
-  pub refused : {r k : ℕ} → v ≡ verdicts.refused r k → answered (verdicts.refused r k) b ≡ assembly p b
+  pub refused : {r : Rule} {k : ℕ} → v ≡ verdicts.refused r k → answered (verdicts.refused r k) b ≡ assembly p b
   unfolding assembly answers.result outcome
   refused f = rw (sym e ∙ f)
 

@@ -9,6 +9,7 @@ ghost use Rattle.model.specs.Refusals.{most_stations};
 ghost use Rattle.model.specs.Numbers.{at};
 ghost use Rattle.model.specs.Lists.{sum_over};
 ghost use Rattle.model.specs.Problem.{problem as with_tables, flag};
+ghost use Rattle.model.specs.declared.rule.Rule.TheVariants.{BufferTooShort};
 ghost use Rattle.model.specs.Verdicts.{refuse};
 ghost use Rattle.model.specs.Counts.{upper, counts};
 ghost use Rattle.model.specs.Answers.{told, sizing, room_refusal};
@@ -17,9 +18,8 @@ ghost use Rattle.checks.specs.Fitting.{Fits};
 ghost use Rattle.sizing.specs.Bounds.{acc_most, jerk_most};
 ghost use Rattle.sizing.specs.Measured.{MeasuredOf};
 
-use checks::refuse_if;
 pub use measures::Measures;
-use model::{Answer, Bounds, FourCounts, Job, Problem, Verdict};
+use model::{Answer, Bounds, FourCounts, Job, Problem, Rule, Verdict};
 use numbers::is_finite;
 
 // Sums over the stations between the ends: finite upper bounds, acceleration rows, jerk rows.
@@ -129,9 +129,9 @@ pub fn size(problem: &Problem) -> Answer
 
 // Refusal 19 of one buffer.
 fn short(place: usize, have: usize, need: usize) -> Verdict
-    ensures { result ≡ refuse 19 place (ltb have need) }
+    ensures { result ≡ refuse BufferTooShort place (ltb have need) }
 {
-    refuse_if(19, place, have < need)
+    Rule::BufferTooShort.refuse_if(place, have < need)
 }
 
 // Refusal 19, from the lengths of rows, columns, values, right side, cone kinds, cone dimensions and cost.

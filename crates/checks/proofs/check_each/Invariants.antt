@@ -10,4 +10,4 @@ invariant-loop-k g l =
     (at : ℕ → ℕ) (test : ℕ → Bool)
     → ((i y : ℕ) → l.from ≤ i → i < l.to → goal.P-post g l.place i y → y ≡ at i)
     → ((i : ℕ) (b : Bool) → l.from ≤ i → i < l.to → goal.F-post g l.fails i b → b ≡ test i)
-    → lowest l.number at test l.from (l.to - l.from) ≡ rest l.number at test l.k l.to
+    → lowest l.rule at test l.from (l.to - l.from) ≡ rest l.rule at test l.k l.to
