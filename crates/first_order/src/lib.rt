@@ -2,226 +2,113 @@
 
 #![tactic(auto)]
 
-ghost use Rattle.std.specs.Prelude.{◌≡◌, ◌+◌, ◌-◌, ◌*◌, ◌<◌, ltb, length};
-ghost use Rattle.model.specs.Lent.{at_entry};
+mod limits;
+
+ghost use Rattle.std.specs.Prelude.{[], ◌+◌, ◌-◌, ◌*◌, ◌^◌, ◌<◌, ltb, length};
 ghost use Rattle.model.specs.Numbers.{at};
 ghost use Rattle.model.specs.Lists.{over, given};
-ghost use Rattle.model.specs.Problem.{m, stop};
+ghost use Rattle.model.specs.Problem.{on_grid, m};
 ghost use Rattle.model.specs.Standard.{upper_row, end_rows, interval_rows, first_order};
-ghost use Rattle.first_order.specs.Limits.{limits};
 ghost use Rattle.buffers.specs.Bounds.{first_order_room};
-ghost use Rattle.buffers.specs.Lent.{Room, wrote};
-ghost use Rattle.buffers.specs.Inputs.{path, Sized};
+ghost use Rattle.buffers.specs.Buffers.{Wrote};
+ghost use Rattle.buffers.specs.Lent.{Room};
+ghost use Rattle.buffers.specs.Paths.{path_of};
+ghost use Rattle.first_order.specs.Limits.{limits_of};
 
+use buffers::Path;
 use columns::{column_a, column_b};
-use model::{Bounds, Ends, Tally, Term};
+pub use limits::Limits;
+use model::{Bounds, Buffers, Tally, Term};
 use numbers::is_finite;
 
-// The upper row of station k, where the bound is finite.
-fn upper(
-    t: Tally,
-    rows: &mut [u32],
-    columns: &mut [u32],
-    values: &mut [f64],
-    right: &mut [f64],
-    grid: &[f64],
-    ends: Ends,
-    k: usize,
-    bound: f64,
-) -> Tally
-    requires { Room t 1 × Sized grid.now ends × (k < length grid.now) }
-    ensures { wrote t rows columns values right result (upper_row (path (at_entry grid) ends) k bound) 1 }
+// The upper row of station k, where the bound is finite. No grid moves its column.
+fn upper(t: Tally, out: &mut Buffers, k: usize, bound: f64) -> Tally
+    requires { Room t 1 × (k < 2 ^ 32) }
+    ensures { Wrote t out.old result out.new (upper_row (on_grid []) k bound) 1 }
 {
     if !is_finite(bound) {
         return t;
     }
-    let a = column_a(k);
-    buffers::row1(
-        t,
-        rows,
-        columns,
-        values,
-        right,
-        bound,
-        Term { col: a, v: 1.0 },
-    )
+    let p = Term {
+        col: column_a(k),
+        v: 1.0,
+    };
+    buffers::row(t, out, bound, [p])
 }
 
-// The rows of an end.
-fn end_rows(
-    t: Tally,
-    rows: &mut [u32],
-    columns: &mut [u32],
-    values: &mut [f64],
-    right: &mut [f64],
-    grid: &[f64],
-    ends: Ends,
-    bounds: Bounds,
-    k: usize,
-) -> Tally
-    requires { Room t 2 × Sized grid.now ends × (k < length grid.now) }
-    ensures { wrote t rows columns values right result (end_rows (path (at_entry grid) ends) k bounds) 2 }
+// The rows of an end whose count is positive: k is its moving station.
+fn end_rows(t: Tally, out: &mut Buffers, count: usize, k: usize, bounds: Bounds) -> Tally
+    requires { Room t 2 × (k < 2 ^ 32) }
+    ensures { Wrote t out.old result out.new (given (ltb 0 count) (end_rows (on_grid []) k bounds)) 2 }
 {
-    let u = upper(
-        t,
-        rows,
-        columns,
-        values,
-        right,
-        grid,
-        ends,
-        k,
-        bounds.maximum,
-    );
-    let a = column_a(k);
-    let p = Term { col: a, v: -1.0 };
-    buffers::row1(u, rows, columns, values, right, -bounds.minimum, p)
-}
-
-// The start's rows, if its count is positive.
-fn start_rows(
-    t: Tally,
-    rows: &mut [u32],
-    columns: &mut [u32],
-    values: &mut [f64],
-    right: &mut [f64],
-    grid: &[f64],
-    ends: Ends,
-    start: Bounds,
-) -> Tally
-    requires { Room t 2 × Sized grid.now ends }
-    ensures { wrote t rows columns values right result (given (ltb 0 ends.n0) (end_rows (path (at_entry grid) ends) ends.n0 start)) 2 }
-{
-    if ends.n0 == 0 {
+    if count == 0 {
         return t;
     }
-    end_rows(t, rows, columns, values, right, grid, ends, start, ends.n0)
-}
-
-// The end's rows, if its count is positive.
-fn last_rows(
-    t: Tally,
-    rows: &mut [u32],
-    columns: &mut [u32],
-    values: &mut [f64],
-    right: &mut [f64],
-    grid: &[f64],
-    ends: Ends,
-    end: Bounds,
-) -> Tally
-    requires { Room t 2 × Sized grid.now ends }
-    ensures { wrote t rows columns values right result (given (ltb 0 ends.n1) (end_rows (path (at_entry grid) ends) (stop (path (at_entry grid) ends)) end)) 2 }
-{
-    if ends.n1 == 0 {
-        return t;
-    }
-    end_rows(
-        t,
-        rows,
-        columns,
-        values,
-        right,
-        grid,
-        ends,
-        end,
-        grid.len() - 1 - ends.n1,
-    )
+    let u = upper(t, out, k, bounds.maximum);
+    let p = Term {
+        col: column_a(k),
+        v: -1.0,
+    };
+    buffers::row(u, out, -bounds.minimum, [p])
 }
 
 // The finite upper rows of the stations that move on both sides.
-fn uppers(
-    t: Tally,
-    rows: &mut [u32],
-    columns: &mut [u32],
-    values: &mut [f64],
-    right: &mut [f64],
-    grid: &[f64],
-    ends: Ends,
-    amax: &[f64],
-) -> Tally
-    requires { Room t (length grid.now) × Sized grid.now ends × (length amax.now ≡ length grid.now) }
-    ensures { wrote t rows columns values right result (over (λ k. upper_row (path (at_entry grid) ends) k (at (at_entry amax) k)) (ends.n0 + 1) (m (path (at_entry grid) ends) - 1)) (length (at_entry grid)) }
+#[tactic(auto, unfolding(model::specs::Problem::stop))]
+fn uppers(t: Tally, out: &mut Buffers, limits: Limits) -> Tally
+    requires { Room t (length limits.path.grid.now) }
+    ensures { Wrote t out.old result out.new (over (λ k. upper_row (path_of limits.entry.path) k (at limits.entry.amax.now k)) (limits.entry.path.ends.n0 + 1) (m (path_of limits.entry.path) - 1)) (length limits.entry.path.grid.now) }
 {
-    let count = grid.len() - 1 - ends.n0 - ends.n1 - 1;
     let mut u = t;
-    for i in 0..count {
-        let k = ends.n0 + 1 + i;
-        u = upper(u, rows, columns, values, right, grid, ends, k, amax[k]);
+    for k in limits.path.ends.n0 + 1..limits.path.stop() {
+        u = upper(u, out, k, limits.amax[k]);
     }
     u
 }
 
 // The two rows of the interval from station k on.
-fn interval(
-    t: Tally,
-    rows: &mut [u32],
-    columns: &mut [u32],
-    values: &mut [f64],
-    right: &mut [f64],
-    grid: &[f64],
-    ends: Ends,
-    k: usize,
-) -> Tally
-    requires { Room t 2 × Sized grid.now ends × (k + 1 < length grid.now) }
-    ensures { wrote t rows columns values right result (interval_rows (path (at_entry grid) ends) k) 2 }
+fn interval(t: Tally, out: &mut Buffers, path: Path, k: usize) -> Tally
+    requires { Room t 2 × (k + 1 < length path.grid.now) }
+    ensures { Wrote t out.old result out.new (interval_rows (path_of path.entry) k) 2 }
 {
-    let h = buffers::spacing(grid, k);
-    let a = column_a(k);
-    let b = column_b(grid, k);
-    let b1 = column_b(grid, k + 1);
-    let p = Term { col: a, v: -2.0 };
-    let q = Term { col: b, v: -h };
-    let u = buffers::row2(t, rows, columns, values, right, 0.0, p, q);
+    let h = buffers::spacing(path.grid, k);
+    let b = column_b(path.grid, k);
+    let next = column_b(path.grid, k + 1);
+    let p = Term {
+        col: column_a(k),
+        v: -2.0,
+    };
+    let u = buffers::row(t, out, 0.0, [p, Term { col: b, v: -h }]);
     let q = Term {
         col: b,
         v: -2.0 * h,
     };
-    let w = Term { col: b1, v: -h };
-    buffers::row3(u, rows, columns, values, right, 0.0, p, q, w)
+    buffers::row(u, out, 0.0, [p, q, Term { col: next, v: -h }])
 }
 
 // The rows of all moving intervals.
-fn clarabel_interval_a_constraint_topp3(
-    t: Tally,
-    rows: &mut [u32],
-    columns: &mut [u32],
-    values: &mut [f64],
-    right: &mut [f64],
-    grid: &[f64],
-    ends: Ends,
-) -> Tally
-    requires { Room t (2 * length grid.now) × Sized grid.now ends }
-    ensures { wrote t rows columns values right result (over (interval_rows (path (at_entry grid) ends)) ends.n0 (m (path (at_entry grid) ends))) (2 * length (at_entry grid)) }
+#[tactic(auto, unfolding(model::specs::Problem::stop))]
+fn clarabel_interval_a_constraint_topp3(t: Tally, out: &mut Buffers, path: Path) -> Tally
+    requires { Room t (2 * length path.grid.now) }
+    ensures { Wrote t out.old result out.new (over (interval_rows (path_of path.entry)) path.entry.ends.n0 (m (path_of path.entry))) (2 * length path.entry.grid.now) }
 {
-    let count = grid.len() - 1 - ends.n0 - ends.n1;
     let mut u = t;
-    for i in 0..count {
-        u = interval(u, rows, columns, values, right, grid, ends, ends.n0 + i);
+    for k in path.ends.n0..path.stop() {
+        u = interval(u, out, path, k);
     }
     u
 }
 
 // All first-order rows.
-pub fn clarabel_1order_constraint_topp3(
-    t: Tally,
-    rows: &mut [u32],
-    columns: &mut [u32],
-    values: &mut [f64],
-    right: &mut [f64],
-    grid: &[f64],
-    ends: Ends,
-    amax: &[f64],
-    start: Bounds,
-    end: Bounds,
-) -> Tally
-    requires { Room t (first_order_room (length grid.now)) × Sized grid.now ends × (length amax.now ≡ length grid.now) }
-    ensures { wrote t rows columns values right result (first_order (path (at_entry grid) ends) (limits start end (at_entry amax))) (first_order_room (length (at_entry grid))) }
+#[tactic(auto, unfolding(model::specs::Problem::m, model::specs::Problem::stop))]
+pub fn clarabel_1order_constraint_topp3(t: Tally, out: &mut Buffers, limits: Limits) -> Tally
+    requires { Room t (first_order_room (length limits.path.grid.now)) }
+    ensures { Wrote t out.old result out.new (first_order (path_of limits.entry.path) (limits_of limits.entry)) (first_order_room (length limits.entry.path.grid.now)) }
 {
-    let u = start_rows(t, rows, columns, values, right, grid, ends, start);
-    let u = last_rows(u, rows, columns, values, right, grid, ends, end);
-    let count = grid.len() - 1 - ends.n0 - ends.n1 - 1;
-    let first = column_a(ends.n0 + 1);
-    let u = buffers::positive(u, rows, columns, values, right, first, count);
-    let u = uppers(u, rows, columns, values, right, grid, ends, amax);
-    clarabel_interval_a_constraint_topp3(u, rows, columns, values, right, grid, ends)
+    let path = limits.path;
+    let ends = path.ends;
+    let u = end_rows(t, out, ends.n0, ends.n0, limits.start);
+    let u = end_rows(u, out, ends.n1, path.stop(), limits.end);
+    let u = buffers::positive(u, out, column_a(ends.n0 + 1), path.moving() - 1);
+    let u = uppers(u, out, limits);
+    clarabel_interval_a_constraint_topp3(u, out, path)
 }

@@ -6,4 +6,4 @@ use Rattle.first_order.proofs.interval.Goals as goal
 
 pub returns : goal.returns
 unfolding interval_rows
-returns c = rw (← c.spacing-h.ensures) (wrote_then (band_at c.row2-u.ensures (at_column c.column_a-a.ensures (at_column c.column_b-b.ensures refl))) (band_at c.row3.ensures (at_column c.column_a-a.ensures (at_column c.column_b-b.ensures (at_column c.column_b-b1.ensures refl)))))
+returns c = rw (← c.spacing-h.ensures) (wrote_then (band_at c.row-u.ensures (at_column c.column_a.ensures (at_column c.column_b-b.ensures refl))) (band_at c.row.ensures (at_column c.column_a.ensures (at_column c.column_b-b.ensures (at_column c.column_b-next.ensures refl)))))

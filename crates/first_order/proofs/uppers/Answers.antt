@@ -1,14 +1,18 @@
 use native.Mathlib.Omega.{arith}
-use Rattle.model.specs.Problem.{m}
-use Rattle.buffers.proofs.Laws.{overs_none, overs_more, overs_all}
+use Rattle.model.specs.Problem.{m, stop}
+use Rattle.model.specs.Standard.{upper_row}
+use Rattle.buffers.proofs.Laws.{overs_all}
+use Rattle.first_order.proofs.Turns.{stations_none, stations_more}
 use Rattle.first_order.proofs.uppers.Goals as goal
 
-pub loop-i-init : goal.loop-i-init
-loop-i-init c = (omega arith, overs_none)
+pub loop-k-init : goal.loop-k-init
+unfolding stop
+loop-k-init c = (omega arith, omega (arith, c.args.limits.path.sized), stations_none)
 
-pub loop-i-preserved : goal.loop-i-preserved
-loop-i-preserved c = (omega (arith, c.loop-i-test), overs_more c.loop-i.invariant.1 c.upper-u.ensures)
+pub loop-k-preserved : goal.loop-k-preserved
+unfolding upper_row
+loop-k-preserved c = (omega arith, omega (arith, c.loop-k-test, c.stop-k-end.ensures), stations_more c.loop-k.invariant.0 c.loop-k.invariant.2 c.upper-u.ensures)
 
 pub returns : goal.returns
-unfolding m
-returns c = overs_all c.loop-i.invariant.1 c.loop-i.invariant.0 c.loop-i-test.false (omega (arith, c.requires))
+unfolding m stop
+returns c = overs_all c.loop-k.invariant.2 (omega (arith, c.loop-k.invariant)) (omega (arith, c.loop-k-test, c.stop-k-end.ensures)) (omega arith)
