@@ -2,20 +2,21 @@
 use mathlib.Core.Path.{◌≡◌, refl, sym, ap, ap₂, ◌∙◌}
 use mathlib.Core.Bool.{Bool, true, false, ◌&&◌}
 use mathlib.Core.List.{List, [], ◌∷◌, ◌++◌, map, map-append}
-use Prim.Native.Nat.{ℕ, zero, suc, ◌+◌, ◌≤◌}
+use Prim.Native.Nat.{ℕ, zero, suc, ◌+◌, ◌≤◌, ◌<◌}
 use native.Mathlib.Nat.{add-zero, zero-add, add-suc, suc-add}
 use native.Mathlib.Numerals.{add-one}
 use native.Mathlib.Omega.{arith}
-use lib.Ieee.{Float, neg, of_bits}
-use lib.ListN.{replicate}
+use lib.Ieee.{Float, nan, neg, of_bits}
+use lib.ListN.{length, replicate, take}
+use Rattle.std.proofs.lemmas.List.{take_more}
 use borrow.Author.Rules.{rules}
-use Rattle.model.specs.Numbers.{finite, +0}
+use Rattle.model.specs.Numbers.{finite, at, +0}
 use Rattle.model.specs.Lists.{list, over, given, joined}
 use Rattle.model.specs.Program.{Cell, Band, Cone, Block, entry, positive_row, band_entries, entries_from, right_sides}
 use Rattle.model.specs.Assembled.{all_finite}
 use Rattle.model.proofs.Sums.{joined-append}
 use Rattle.buffers.proofs.Laws.{and_assoc, all_append}
-use Rattle.finiteness.specs.Finite.{each, Each, if_test, finite_columns, finite_band, finite_bands, finite_cones, finite_block, finite_blocks}
+use Rattle.finiteness.specs.Finite.{finite_each, each, Each, if_test, finite_columns, finite_band, finite_bands, finite_cones, finite_block, finite_blocks}
 
 -- ---- flags
 
@@ -66,6 +67,18 @@ module _ {f : ℕ → Bool} {k : ℕ} where
 
   pub each_all : {u : Bool} {i c : ℕ} → Each u f k i → i ≤ c → c ≤ i → Each u f k c
   each_all {u} {i} {c} p a b = let e : c ≡ i = omega arith in record { says = p.says ∙ ap (each f k) (sym e) }
+
+-- ---- numbers in a row
+
+-- one number more
+pub row_more : (xs : List Float) (i : ℕ) → i < length xs → {u v w : Bool} → u ≡ all_finite (take i xs) → v ≡ finite (at xs i) → w ≡ (u && v) → w ≡ all_finite (take (i + 1) xs)
+row_more xs i l p q g =
+    rw (take_more xs i nan l, all_append, and_true) (g ∙ ap₂ (λ (a b : Bool). a && b) p q)
+
+pub row_finite : (xs : List Float) → all_finite xs ≡ finite_each xs
+row_finite [] = refl
+row_finite (x ∷ []) = and_true (finite x)
+row_finite (x ∷ y ∷ ys) = ap (λ (b : Bool). finite x && b) (row_finite (y ∷ ys))
 
 -- ---- bands
 

@@ -1,9 +1,15 @@
 -- Whether every number of bands is finite, told row by row and column by column.
-use Rattle.std.specs.Prelude.{◌≡◌, Bool, true, false, ◌&&◌, List, [], ◌∷◌, ℕ, zero, suc}
+use Rattle.std.specs.Prelude.{◌≡◌, Bool, true, false, ◌&&◌, List, [], ◌∷◌, ℕ, zero, suc, Float}
 use Rattle.model.specs.Numbers.{finite}
 use Rattle.model.specs.Lists.{joined}
 use Rattle.model.specs.Program.{Cell, Band, Cone, Block}
 use Rattle.model.specs.Assembled.{all_finite}
+
+-- numbers in a row: finite a && (finite b && finite c)
+abbrev pub finite_each : List Float → Bool
+finite_each [] = true
+finite_each (x ∷ []) = finite x
+finite_each (x ∷ y ∷ ys) = finite x && finite_each (y ∷ ys)
 
 -- f k, f (k + 1), .., c tests
 abbrev pub each : (ℕ → Bool) → ℕ → ℕ → Bool

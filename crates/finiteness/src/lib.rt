@@ -2,19 +2,31 @@
 
 #![tactic(auto)]
 
-ghost use Rattle.std.specs.Prelude.{◌≡◌, ◌&&◌};
-ghost use Rattle.model.specs.Numbers.{finite};
+ghost use Rattle.std.specs.Prelude.{◌≡◌, ◌+◌, ◌^◌, ◌<◌, ◌≤◌, ℕ, Bool};
+ghost use Rattle.finiteness.specs.Finite.{Each, finite_each};
 
 use numbers::{both, is_finite};
 
-pub fn both_finite(a: f64, b: f64) -> bool
-    ensures { result ≡ (finite a && finite b) }
+// No branch: it looks at every number.
+pub fn all_finite<const N: usize>(xs: [f64; N]) -> bool
+    ensures { result ≡ finite_each xs.entry }
 {
-    both(is_finite(a), is_finite(b))
+    let mut ok = true;
+    for x in &xs {
+        ok = both(ok, is_finite(*x));
+    }
+    ok
 }
 
-pub fn three_finite(a: f64, b: f64, c: f64) -> bool
-    ensures { result ≡ (finite a && (finite b && finite c)) }
+// Whether a test passes at each of count places, from one on. No branch: it goes on to its end.
+pub fn every<F: Fn(usize) -> bool>(from: usize, count: usize, test: F) -> bool
+    requires room { from + count < 2 ^ 64 }
+    requires callable { (k : ℕ) → from ≤ k → k < from + count → F.pre test k }
+    ensures { (f : ℕ → Bool) → ((k : ℕ) (b : Bool) → from ≤ k → k < from + count → F.post test k b → b ≡ f k) → Each result f from count }
 {
-    both(is_finite(a), both_finite(b, c))
+    let mut ok = true;
+    for i in 0..count {
+        ok = both(ok, test(from + i));
+    }
+    ok
 }
