@@ -4,7 +4,7 @@
 ghost use Rattle.std.specs.Prelude.{◌≡◌, ◌+◌, nat_eq, map, count_by};
 ghost use Rattle.std.specs.List.{range_with_len};
 ghost use Rattle.text.specs.Text.{says};
-ghost use Rattle.column_names.specs.Columns.{layout_of, slot_at, own_letter, letter_at, before, word, name, kind_name, owner_name, row_owner};
+ghost use Rattle.column_names.specs.Columns.{layout_of, slot_at, own_letter, letter_at, word, name, kind_name, owner_name, row_owner};
 
 use model::{Column, Objective, Owner, Row};
 use text::Writer;
