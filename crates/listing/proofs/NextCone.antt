@@ -1,5 +1,5 @@
 -- A cone after those before it.
-use Rattle.std.proofs.Common.{◌≡◌, ℕ, suc, ◌+◌, ◌-◌, min, List, ◌++◌, get_or, sym, ap, ◌∙◌, add-one}
+use Rattle.std.proofs.Common.{◌≡◌, ℕ, ◌+◌, ◌-◌, min, List, ◌++◌, get_or, sym, ap, ◌∙◌, add-one}
 use lib.Ieee.{Float}
 use Rattle.model.specs.Lists.{over}
 use Rattle.column_names.specs.Columns.{Layout}
