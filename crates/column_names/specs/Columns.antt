@@ -5,6 +5,7 @@ use Rattle.model.specs.Numbers.{+0}
 use Rattle.model.specs.Answers.{Told}
 use Rattle.model.specs.OwnerAnswers.{owner_of_row, owner_of_column}
 use Rattle.model.specs.declared.Objective.{Objective}
+use Rattle.column_names.specs.declared.Layout.{Layout as LentLayout}
 use Rattle.model.specs.declared.Objective.TheVariants.{Time, ThermalEnergy, TotalVariationTorque, Linear}
 use Rattle.text.specs.Text.{ascii}
 use Rattle.text.specs.Digits.{decimal}
@@ -13,7 +14,7 @@ use Rattle.text.specs.Digits.{decimal}
 abbrev pub letter : Char → ℕ
 letter c = code c
 
--- what names and owners go by: the number of stations, the 16 objectives, how many count, the index
+-- what names and owners go by: the number of stations, the objectives, how many of them count, the index
 pub record Layout : Type 0 where
   pub stations : ℕ
   pub slots : List Objective
@@ -23,7 +24,11 @@ pub record Layout : Type 0 where
 abbrev pub layout : ℕ → List Objective → ℕ → List ℕ → Layout
 layout stations slots count index = record { stations = stations; slots = slots; count = count; index = index }
 
--- past the 16 objectives a Linear, which has no column
+-- what a struct of src/lib.rt lends
+abbrev pub layout_of : LentLayout → Layout
+layout_of y = layout y.stations y.objectives.now y.count y.index.now
+
+-- past the objectives a Linear, which has no column
 abbrev pub slot_at : List Objective → ℕ → Objective
 slot_at slots i = get_or slots i (Linear +0 0 0 0 0)
 

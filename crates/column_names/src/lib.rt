@@ -1,159 +1,131 @@
 // The names of columns, and who owns a row, in words.
 #![tactic(auto)]
 
-ghost use Rattle.std.specs.Prelude.{◌≡◌, cond, ◌≤◌, eqb};
-ghost use Rattle.model.specs.Lent.{at_entry};
+ghost use Rattle.std.specs.Prelude.{◌≡◌, ◌+◌, nat_eq, map, count_by};
+ghost use Rattle.std.specs.List.{range_with_len};
 ghost use Rattle.text.specs.Text.{says};
-ghost use Rattle.column_names.specs.Columns.{layout, slot_at, own_letter, letter_at, before, word, name, kind_name, row_owner};
+ghost use Rattle.column_names.specs.Columns.{layout_of, slot_at, own_letter, letter_at, word, name, kind_name, owner_name, row_owner};
 
-use model::{Column, Objective, OwnerAnswer, Row};
-use text::words;
+use model::{Column, Objective, Owner, Row};
+use text::Writer;
 
-// Objective i; past the array a Linear, which has no column.
-fn slot_at(objectives: [Objective; 16], i: usize) -> Objective
-    ensures { result ≡ slot_at objectives i }
-{
-    if i < 16 {
-        return objectives[i];
-    }
-    Objective::Linear {
-        weight: 0.0,
-        alpha: 0,
-        alpha_len: 0,
-        beta: 0,
-        beta_len: 0,
-    }
+// What names and owners go by: the number of stations, the objectives, how many of them count, the index. `count` stands beside `objectives` and isn't its length: a job's count may be any number, and no function here asks that so many objectives are lent.
+#[derive(Clone, Copy)]
+pub struct Layout<'a> {
+    pub stations: usize,
+    pub objectives: &'a [Objective],
+    pub count: usize,
+    pub index: &'a [usize],
 }
 
 fn own_letter(o: Objective) -> u8
     ensures { result ≡ own_letter o }
 {
     match o {
-        Objective::Time(_) => b'e',
+        Objective::Time(..) => b'e',
         Objective::ThermalEnergy { .. } => b't',
         Objective::TotalVariationTorque { .. } => b't',
         Objective::Linear { .. } => b'?',
     }
 }
 
-// The first letter of a column's word: a, b, x for xi, e for eta, t; `?` for a column that nobody owns.
-pub fn letter_at(
-    stations: usize,
-    objectives: [Objective; 16],
-    count: usize,
-    index: &[usize],
-    column: Column,
-) -> u8
-    ensures { result ≡ letter_at (layout stations objectives count (at_entry index)) column.at }
-{
-    let k = column.at;
-    if k < stations {
-        return b'a';
-    }
-    if k - stations < stations {
-        return b'b';
-    }
-    let owner = owners::owner_of_column(index, count, column);
-    match owner {
-        OwnerAnswer::StandardRows => b'?',
-        OwnerAnswer::RootStage => b'x',
-        OwnerAnswer::ObjectiveNumber(i) => own_letter(slot_at(objectives, i)),
-        OwnerAnswer::IndexTooShort => b'?',
-        OwnerAnswer::NotCovered => b'?',
-    }
-}
-
-// 1 for the same letter, and else 0.
-fn same(a: u8, b: u8) -> usize
-    ensures { (result ≡ cond (eqb a b) 1 0) × (result ≤ 1) }
-{
-    if a == b { 1 } else { 0 }
-}
-
-// How many of the columns before this one have the letter.
-fn before(
-    stations: usize,
-    objectives: [Objective; 16],
-    count: usize,
-    index: &[usize],
-    letter: u8,
-    column: Column,
-) -> usize
-    ensures { result ≡ before (layout stations objectives count (at_entry index)) letter column.at }
-{
-    let end = column.at;
-    let mut n: usize = 0;
-    for k in 0..end {
-        let other = letter_at(stations, objectives, count, index, Column { at: k });
-        n += same(other, letter);
-    }
-    n
-}
-
-fn word(out: &mut [u8], at: usize, letter: u8) -> usize
-    ensures { says (word letter) out at result }
-{
-    if letter == b'x' {
-        return words(out, at, b"xi");
-    }
-    if letter == b'e' {
-        return words(out, at, b"eta");
-    }
-    text::put(out, at, letter)
-}
-
-// The name of a column.
-pub fn name(
-    out: &mut [u8],
-    at: usize,
-    stations: usize,
-    objectives: [Objective; 16],
-    count: usize,
-    index: &[usize],
-    column: Column,
-) -> usize
-    ensures { says (name (layout stations objectives count (at_entry index)) column.at) out at result }
-{
-    let letter = letter_at(stations, objectives, count, index, column);
-    let n = before(stations, objectives, count, index, letter, column);
-    let next = word(out, at, letter);
-    text::decimal(out, next, n as u64)
-}
-
-fn kind_name(out: &mut [u8], at: usize, o: Objective) -> usize
-    ensures { says (kind_name o) out at result }
+fn kind_name(o: Objective) -> &'static [u8]
+    ensures { result.now ≡ kind_name o }
 {
     match o {
-        Objective::Time(_) => words(out, at, b"Time"),
-        Objective::ThermalEnergy { .. } => words(out, at, b"ThermalEnergy"),
-        Objective::TotalVariationTorque { .. } => words(out, at, b"TotalVariationTorque"),
-        Objective::Linear { .. } => words(out, at, b"Linear"),
+        Objective::Time(..) => b"Time",
+        Objective::ThermalEnergy { .. } => b"ThermalEnergy",
+        Objective::TotalVariationTorque { .. } => b"TotalVariationTorque",
+        Objective::Linear { .. } => b"Linear",
     }
 }
 
-// The owner of a row.
-pub fn row_owner(
-    out: &mut [u8],
-    at: usize,
-    stations: usize,
-    objectives: [Objective; 16],
-    count: usize,
-    index: &[usize],
-    row: Row,
-) -> usize
-    ensures { says (row_owner (layout stations objectives count (at_entry index)) row.at) out at result }
+#[tactic(auto, unfolding(crate::specs::Columns::word))]
+fn word(out: &mut Writer, letter: u8)
+    ensures { says (word letter) out }
 {
-    let owner = owners::owner_of_row(index, count, row);
-    match owner {
-        OwnerAnswer::StandardRows => words(out, at, b"standard rows"),
-        OwnerAnswer::RootStage => words(out, at, b"root stage"),
-        OwnerAnswer::ObjectiveNumber(i) => {
-            let a = words(out, at, b"objective ");
-            let b = text::decimal(out, a, i as u64);
-            let c = words(out, b, b", ");
-            kind_name(out, c, slot_at(objectives, i))
+    match letter {
+        b'x' => out.words(b"xi"),
+        b'e' => out.words(b"eta"),
+        _ => out.put(letter),
+    }
+}
+
+impl Layout<'_> {
+    // Objective i; past the end a Linear, which has no column.
+    fn slot_at(&self, i: usize) -> Objective
+        ensures { result ≡ slot_at self.now.objectives.now i }
+    {
+        self.objectives
+            .get(i)
+            .copied()
+            .unwrap_or(Objective::Linear {
+                weight: 0.0,
+                alpha: 0,
+                alpha_len: 0,
+                beta: 0,
+                beta_len: 0,
+            })
+    }
+
+    // The first letter of a column's word: a, b, x for xi, e for eta, t; `?` for a column that nobody owns.
+    #[tactic(auto, unfolding(crate::specs::Columns::letter_at, crate::specs::Columns::owner_letter))]
+    pub fn letter_at(&self, column: Column) -> u8
+        ensures { result ≡ letter_at (layout_of self.now) column.at }
+    {
+        if column.at < self.stations {
+            return b'a';
         }
-        OwnerAnswer::IndexTooShort => words(out, at, b"nobody"),
-        OwnerAnswer::NotCovered => words(out, at, b"nobody"),
+        if column.at - self.stations < self.stations {
+            return b'b';
+        }
+        match owners::owner_of_column(self.index, self.count, column) {
+            Ok(Owner::RootStage) => b'x',
+            Ok(Owner::ObjectiveNumber(i)) => own_letter(self.slot_at(i)),
+            Ok(Owner::StandardRows) | Err(_) => b'?',
+        }
+    }
+
+    // How many of the columns before this one have the letter.
+    fn before(&self, letter: u8, column: Column) -> usize
+        ensures { result ≡ count_by (λ x. nat_eq x letter) (map (λ k. letter_at (layout_of self.now) k) (range_with_len 0 column.at)) }
+    {
+        (0..column.at)
+            .map(|k| self.letter_at(Column { at: k }))
+            .filter(|other| *other == letter)
+            .count()
+    }
+
+    // The name of a column.
+    #[tactic(auto, using(text::proofs::Laws::written_append, crate::proofs::Names::before_counts), unfolding(crate::specs::Columns::name))]
+    pub fn name(&self, out: &mut Writer, column: Column)
+        ensures { says (name (layout_of self.now) column.at) out }
+    {
+        let letter = self.letter_at(column);
+        word(out, letter);
+        out.decimal(self.before(letter, column) as u64);
+    }
+
+    // Objective i as an owner.
+    fn objective(&self, out: &mut Writer, i: usize)
+        ensures { says (owner_name self.now.objectives.now (2 + i)) out }
+    {
+        out.words(b"objective ");
+        out.decimal(i as u64);
+        out.words(b", ");
+        out.words(kind_name(self.slot_at(i)));
+    }
+
+    // The owner of a row.
+    #[tactic(auto, unfolding(crate::specs::Columns::row_owner, crate::specs::Columns::owner_name))]
+    pub fn row_owner(&self, out: &mut Writer, row: Row)
+        ensures { says (row_owner (layout_of self.now) row.at) out }
+    {
+        match owners::owner_of_row(self.index, self.count, row) {
+            Ok(Owner::StandardRows) => out.words(b"standard rows"),
+            Ok(Owner::RootStage) => out.words(b"root stage"),
+            Ok(Owner::ObjectiveNumber(i)) => self.objective(out, i),
+            Err(_) => out.words(b"nobody"),
+        }
     }
 }

@@ -1,3 +1,3 @@
 pub mod Laws
-pub mod Told
-pub mod Pages
+pub mod Marks
+pub mod NextCone

@@ -1,3 +1,4 @@
 pub mod Rows
 pub mod Pattern
 pub mod Page
+pub mod Listed

@@ -1,9 +1,8 @@
 -- docs/LISTING.md: the page of an answer.
-use Rattle.std.specs.Prelude.{ℕ, List, ◌++◌}
+use Rattle.std.specs.Prelude.{ℕ, List, ◌++◌, Ok, Err}
 use Rattle.model.specs.Lists.{over}
 use Rattle.model.specs.Answers.{Buffers}
-use Rattle.model.specs.declared.Answer.{Answer}
-use Rattle.model.specs.declared.Answer.TheVariants.{Refusal, Counts}
+use Rattle.model.specs.Verdicts.{Answer}
 use Rattle.model.specs.declared.Objective.{Objective}
 use Rattle.text.specs.Text.{ascii}
 use Rattle.text.specs.Digits.{decimal}
@@ -19,12 +18,12 @@ counts_line e r c k =
 abbrev pub matrix_of : Buffers → Matrix
 matrix_of b = matrix b.rows b.columns b.values
 
--- the page of an answer with what the buffers hold after it, for so many stations and the 16 objectives, of which `count` count
+-- the page of an answer with what the buffers hold after it, for so many stations and these objectives, of which `count` count
 unfoldable pub page_of : ℕ → List Objective → ℕ → Answer → Buffers → List ℕ
-page_of stations slots count (Refusal r k) b = refused r k
-page_of stations slots count (Counts e r c k) b =
+page_of stations slots count (Err e) b = refused e.number e.place
+page_of stations slots count (Ok t) b =
     let y = layout stations slots count b.index in
-    counts_line e r c k
-    ++ over (cone y (matrix_of b) e b.right r b.kinds b.dimensions) 0 c
-    ++ cost_line y b.cost k
-    ++ picture y (matrix_of b) e r k
+    counts_line t.entries t.rows t.cones t.columns
+    ++ over (cone y (matrix_of b) t.entries b.right t.rows b.kinds b.dimensions) 0 t.cones
+    ++ cost_line y b.cost t.columns
+    ++ picture y (matrix_of b) t.entries t.rows t.columns

@@ -1,75 +1,83 @@
-// An assembled problem as text, for a person: docs/LISTING.md. Every writer takes the buffer and the place of its first byte, and answers the place after its last.
+// An assembled problem as text, for a person: docs/LISTING.md.
 #![tactic(auto)]
 
 mod cones;
 mod pattern;
 mod rows;
 
-ghost use Rattle.model.specs.Answers.{buffers};
+ghost use Rattle.std.specs.Prelude.{◌≡◌};
+ghost use Rattle.model.specs.Lent.{buffers_of};
 ghost use Rattle.text.specs.Text.{says};
 ghost use Rattle.listing.specs.Page.{counts_line, page_of};
 
-use model::{Answer, Objective};
-use text::words;
+use column_names::Layout;
+use model::{Answer, Buffers, FourCounts, Objective};
+use text::Writer;
 
-fn counts_line(
-    out: &mut [u8],
-    at: usize,
-    entries: usize,
-    rows: usize,
-    cones: usize,
-    columns: usize,
-) -> usize
-    ensures { says (counts_line entries rows cones columns) out at result }
-{
-    let a = words(out, at, b"entries ");
-    let b = text::decimal(out, a, entries as u64);
-    let c = words(out, b, b", rows ");
-    let d = text::decimal(out, c, rows as u64);
-    let e = words(out, d, b", cones ");
-    let f = text::decimal(out, e, cones as u64);
-    let g = words(out, f, b", columns ");
-    let h = text::decimal(out, g, columns as u64);
-    words(out, h, b"\n")
+// An accepted problem: what its names and owners go by, its four counts, and what buffers 0 to 6 hold.
+#[derive(Clone, Copy)]
+pub struct Assembled<'a> {
+    pub layout: Layout<'a>,
+    pub counts: FourCounts,
+    pub rows: &'a [u32],
+    pub columns: &'a [u32],
+    pub values: &'a [f64],
+    pub right: &'a [f64],
+    pub kinds: &'a [u8],
+    pub dimensions: &'a [u32],
+    pub cost: &'a [f64],
 }
 
-// The page of an answer and of what the buffers hold after it.
+fn counts_line(out: &mut Writer, counts: FourCounts)
+    ensures { says (counts_line counts.entries counts.rows counts.cones counts.columns) out }
+{
+    out.words(b"entries ");
+    out.decimal(counts.entries as u64);
+    out.words(b", rows ");
+    out.decimal(counts.rows as u64);
+    out.words(b", cones ");
+    out.decimal(counts.cones as u64);
+    out.words(b", columns ");
+    out.decimal(counts.columns as u64);
+    out.words(b"\n");
+}
+
+// The page of an answer and of what the buffers hold after it. The index is that of the buffers, so what names go by comes in parts and not as a Layout.
+#[tactic(auto, using(text::proofs::Laws::written_append), unfolding(crate::specs::Page::page_of))]
 pub fn page(
-    out: &mut [u8],
-    at: usize,
+    out: &mut Writer,
     answer: Answer,
     stations: usize,
-    objectives: [Objective; 16],
+    objectives: &[Objective],
     count: usize,
-    rows: &[u32],
-    columns: &[u32],
-    values: &[f64],
-    right: &[f64],
-    kinds: &[u8],
-    dimensions: &[u32],
-    cost: &[f64],
-    index: &[usize],
-) -> usize
-    ensures { says (page_of stations objectives count answer (buffers rows.now columns.now values.now right.now kinds.now dimensions.now cost.now index.now)) out at result }
+    buffers: &Buffers,
+)
+    ensures { says (page_of stations objectives.now count answer (buffers_of buffers.now)) out }
 {
     match answer {
-        Answer::Refusal { number, place } => refusal_words::refused(out, at, number, place),
-        Answer::Counts {
-            entries,
-            rows: height,
-            cones,
-            columns: width,
-        } => {
-            let a = counts_line(out, at, entries, height, cones, width);
-            let b = cones::cones(
-                out, a, stations, objectives, count, index, entries, rows, columns, values, height,
-                right, cones, kinds, dimensions,
-            );
-            let c = rows::cost_line(out, b, stations, objectives, count, index, cost, width);
-            pattern::picture(
-                out, c, stations, objectives, count, index, rows, columns, values, entries, height,
-                width,
-            )
+        Err(refusal) => refusal_words::refused(out, refusal.number, refusal.place),
+        Ok(counts) => {
+            let layout = Layout {
+                stations,
+                objectives,
+                count,
+                index: buffers.index,
+            };
+            let assembled = Assembled {
+                layout,
+                counts,
+                rows: buffers.rows,
+                columns: buffers.columns,
+                values: buffers.values,
+                right: buffers.right,
+                kinds: buffers.kinds,
+                dimensions: buffers.dimensions,
+                cost: buffers.cost,
+            };
+            counts_line(out, counts);
+            assembled.cones(out);
+            assembled.cost_line(out);
+            assembled.picture(out);
         }
     }
 }

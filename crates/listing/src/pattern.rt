@@ -1,155 +1,99 @@
 // The pattern of the matrix as a picture.
-ghost use Rattle.std.specs.Prelude.{◌≡◌, ◌&&◌, [], ◌∷◌, eqb, get_or};
-ghost use Rattle.model.specs.Lent.{at_entry};
+ghost use Rattle.std.specs.Prelude.{◌≡◌, ◌&&◌, [], ◌∷◌, nat_eq, get_or, find};
+ghost use Rattle.std.specs.List.{range_with_len};
 ghost use Rattle.model.specs.Lists.{over};
 ghost use Rattle.text.specs.Text.{says};
-ghost use Rattle.column_names.specs.Columns.{layout, letter_at};
-ghost use Rattle.listing.specs.Rows.{matrix};
+ghost use Rattle.column_names.specs.Columns.{letter_at};
+ghost use Rattle.listing.specs.Listed.{layout_in, matrix_in};
 ghost use Rattle.listing.specs.Pattern.{sign_mark, mark_from, picture_row, picture};
 
-use crate::rows::{column_at, float_at, row_at};
-use column_names::letter_at;
-use model::{Column, Objective, Row};
-use text::words;
+use crate::Assembled;
+use crate::rows::{float_at, number_at};
+use model::{Column, Row};
+use text::Writer;
 
 fn sign_mark(x: f64) -> u8
     ensures { result ≡ sign_mark x }
 {
     if 0.0 < x {
-        return b'+';
+        b'+'
+    } else if x < 0.0 {
+        b'-'
+    } else {
+        b'0'
     }
-    if x < 0.0 {
-        return b'-';
-    }
-    b'0'
 }
 
-// Whether entry i stands at a row and a column.
-fn stands_at(rows: &[u32], columns: &[u32], i: usize, row: Row, column: Column) -> bool
-    ensures { result ≡ (eqb (get_or (at_entry rows) i 0) row.at && eqb (get_or (at_entry columns) i 0) column.at) }
-{
-    let own = row_at(rows, i);
-    let other = column_at(columns, i);
-    (own.at == row.at) & (other.at == column.at)
-}
+impl Assembled<'_> {
+    // Whether entry i stands at a row and a column.
+    fn stands_at(&self, i: usize, row: Row, column: Column) -> bool
+        ensures { result ≡ (nat_eq (get_or self.now.rows.now i 0) row.at && nat_eq (get_or self.now.columns.now i 0) column.at) }
+    {
+        number_at(self.rows, i) == row.at && number_at(self.columns, i) == column.at
+    }
 
-// The mark of a row and a column: that of the first entry there.
-fn mark(
-    rows: &[u32],
-    columns: &[u32],
-    values: &[f64],
-    entries: usize,
-    row: Row,
-    column: Column,
-) -> u8
-    ensures { result ≡ mark_from (matrix (at_entry rows) (at_entry columns) (at_entry values)) row.at column.at 0 entries }
-{
-    for i in 0..entries {
-        if stands_at(rows, columns, i, row, column) {
-            return sign_mark(float_at(values, i));
+    // The first entry at a row and a column.
+    fn first_at(&self, row: Row, column: Column) -> Option<usize>
+        ensures { result ≡ find (λ i. nat_eq (get_or self.now.rows.now i 0) row.at && nat_eq (get_or self.now.columns.now i 0) column.at) (range_with_len 0 self.now.counts.entries) }
+    {
+        (0..self.counts.entries).find(|i| self.stands_at(*i, row, column))
+    }
+
+    // The mark of a row and a column: that of the first entry there.
+    #[tactic(auto, using(crate::proofs::Marks::mark_found))]
+    fn mark(&self, row: Row, column: Column) -> u8
+        ensures { result ≡ mark_from (matrix_in self.now) row.at column.at 0 self.now.counts.entries }
+    {
+        match self.first_at(row, column) {
+            Some(i) => sign_mark(float_at(self.values, i)),
+            None => b'.',
         }
     }
-    b'.'
-}
 
-fn marks(
-    out: &mut [u8],
-    at: usize,
-    rows: &[u32],
-    columns: &[u32],
-    values: &[f64],
-    entries: usize,
-    width: usize,
-    row: Row,
-) -> usize
-    ensures { says (over (λ k. mark_from (matrix (at_entry rows) (at_entry columns) (at_entry values)) row.at k 0 entries ∷ []) 0 width) out at result }
-{
-    let mut next = at;
-    for k in 0..width {
-        let column = Column { at: k };
-        let mark = mark(rows, columns, values, entries, row, column);
-        next = text::put(out, next, mark);
+    #[tactic(auto, using(crate::proofs::Laws::written_next, text::proofs::Laws::written_nothing))]
+    fn marks(&self, out: &mut Writer, row: Row)
+        ensures { says (over (λ k. mark_from (matrix_in self.now) row.at k 0 self.now.counts.entries ∷ []) 0 self.now.counts.columns) out }
+    {
+        for k in 0..self.counts.columns {
+            out.put(self.mark(row, Column { at: k }));
+        }
     }
-    next
-}
 
-fn picture_row(
-    out: &mut [u8],
-    at: usize,
-    rows: &[u32],
-    columns: &[u32],
-    values: &[f64],
-    entries: usize,
-    width: usize,
-    row: Row,
-) -> usize
-    ensures { says (picture_row (matrix (at_entry rows) (at_entry columns) (at_entry values)) entries width row.at) out at result }
-{
-    let first = words(out, at, b"  ");
-    let behind = marks(out, first, rows, columns, values, entries, width, row);
-    let number = words(out, behind, b"  ");
-    let end = text::decimal(out, number, row.at as u64);
-    words(out, end, b"\n")
-}
-
-fn letters(
-    out: &mut [u8],
-    at: usize,
-    stations: usize,
-    objectives: [Objective; 16],
-    count: usize,
-    index: &[usize],
-    width: usize,
-) -> usize
-    ensures { says (over (λ k. letter_at (layout stations objectives count (at_entry index)) k ∷ []) 0 width) out at result }
-{
-    let mut next = at;
-    for k in 0..width {
-        let letter = letter_at(stations, objectives, count, index, Column { at: k });
-        next = text::put(out, next, letter);
+    fn picture_row(&self, out: &mut Writer, row: Row)
+        ensures { says (picture_row (matrix_in self.now) self.now.counts.entries self.now.counts.columns row.at) out }
+    {
+        out.words(b"  ");
+        self.marks(out, row);
+        out.words(b"  ");
+        out.decimal(row.at as u64);
+        out.words(b"\n");
     }
-    next
-}
 
-fn picture_rows(
-    out: &mut [u8],
-    at: usize,
-    rows: &[u32],
-    columns: &[u32],
-    values: &[f64],
-    entries: usize,
-    height: usize,
-    width: usize,
-) -> usize
-    ensures { says (over (picture_row (matrix (at_entry rows) (at_entry columns) (at_entry values)) entries width) 0 height) out at result }
-{
-    let mut next = at;
-    for r in 0..height {
-        let row = Row { at: r };
-        next = picture_row(out, next, rows, columns, values, entries, width, row);
+    #[tactic(auto, using(crate::proofs::Laws::written_next, text::proofs::Laws::written_nothing))]
+    fn letters(&self, out: &mut Writer)
+        ensures { says (over (λ k. letter_at (layout_in self.now) k ∷ []) 0 self.now.counts.columns) out }
+    {
+        for k in 0..self.counts.columns {
+            out.put(self.layout.letter_at(Column { at: k }));
+        }
     }
-    next
-}
 
-// The whole picture: the first letters of the columns' words, and a line for each row.
-pub fn picture(
-    out: &mut [u8],
-    at: usize,
-    stations: usize,
-    objectives: [Objective; 16],
-    count: usize,
-    index: &[usize],
-    rows: &[u32],
-    columns: &[u32],
-    values: &[f64],
-    entries: usize,
-    height: usize,
-    width: usize,
-) -> usize
-    ensures { says (picture (layout stations objectives count (at_entry index)) (matrix (at_entry rows) (at_entry columns) (at_entry values)) entries height width) out at result }
-{
-    let first = words(out, at, b"pattern:\n  ");
-    let end = letters(out, first, stations, objectives, count, index, width);
-    let next = words(out, end, b"\n");
-    picture_rows(out, next, rows, columns, values, entries, height, width)
+    #[tactic(auto, using(crate::proofs::Laws::written_next, text::proofs::Laws::written_nothing))]
+    fn picture_rows(&self, out: &mut Writer)
+        ensures { says (over (picture_row (matrix_in self.now) self.now.counts.entries self.now.counts.columns) 0 self.now.counts.rows) out }
+    {
+        for r in 0..self.counts.rows {
+            self.picture_row(out, Row { at: r });
+        }
+    }
+
+    // The whole picture: the first letters of the columns' words, and a line for each row.
+    pub fn picture(&self, out: &mut Writer)
+        ensures { says (picture (layout_in self.now) (matrix_in self.now) self.now.counts.entries self.now.counts.rows self.now.counts.columns) out }
+    {
+        out.words(b"pattern:\n  ");
+        self.letters(out);
+        out.words(b"\n");
+        self.picture_rows(out);
+    }
 }

@@ -1,210 +1,110 @@
 // Terms, rows and the cost.
 ghost use Rattle.std.specs.Prelude.{◌≡◌, get_or};
-ghost use Rattle.model.specs.Lent.{at_entry};
 ghost use Rattle.model.specs.Lists.{over};
 ghost use Rattle.model.specs.Numbers.{at};
 ghost use Rattle.text.specs.Text.{says};
-ghost use Rattle.column_names.specs.Columns.{layout};
-ghost use Rattle.listing.specs.Rows.{matrix, plus, term, entry, row as row_line, charge, cost_line};
+ghost use Rattle.listing.specs.Listed.{layout_in, matrix_in};
+ghost use Rattle.listing.specs.Rows.{plus, term, entry, row as row_line, charge, cost_line};
 
-use column_names::name;
-use model::{Column, Objective, Row};
-use text::words;
-
-fn wide(x: u32) -> usize
-    ensures { result ≡ x }
-{
-    x as usize
-}
+use crate::Assembled;
+use model::{Column, Row};
+use text::Writer;
 
 pub fn number_at(xs: &[u32], i: usize) -> usize
-    ensures { result ≡ get_or (at_entry xs) i 0 }
+    ensures { result ≡ get_or xs.now i 0 }
 {
-    if i < xs.len() { wide(xs[i]) } else { 0 }
-}
-
-pub fn row_at(rows: &[u32], i: usize) -> Row
-    ensures { result.at ≡ get_or (at_entry rows) i 0 }
-{
-    Row {
-        at: number_at(rows, i),
-    }
-}
-
-pub fn column_at(columns: &[u32], i: usize) -> Column
-    ensures { result.at ≡ get_or (at_entry columns) i 0 }
-{
-    Column {
-        at: number_at(columns, i),
-    }
+    xs.get(i).copied().unwrap_or(0) as usize
 }
 
 pub fn float_at(xs: &[f64], i: usize) -> f64
-    ensures { result ≡ at (at_entry xs) i }
+    ensures { result ≡ at xs.now i }
 {
-    if i < xs.len() { xs[i] } else { 0.0 / 0.0 }
+    xs.get(i).copied().unwrap_or(f64::NAN)
 }
 
-fn plus(out: &mut [u8], at: usize, x: f64) -> usize
-    ensures { says (plus x) out at result }
+#[tactic(auto, using(text::proofs::Laws::written_nothing))]
+fn plus(out: &mut Writer, x: f64)
+    ensures { says (plus x) out }
 {
-    if text::minus(x) {
-        at
-    } else {
-        text::put(out, at, b'+')
+    if !text::minus(x) {
+        out.put(b'+');
     }
 }
 
-// x times a column.
-fn term(
-    out: &mut [u8],
-    at: usize,
-    stations: usize,
-    objectives: [Objective; 16],
-    count: usize,
-    index: &[usize],
-    x: f64,
-    column: Column,
-) -> usize
-    ensures { says (term (layout stations objectives count (at_entry index)) x column.at) out at result }
-{
-    let sign = words(out, at, b" ");
-    let number = plus(out, sign, x);
-    let dot = text::number(out, number, x);
-    let named = words(out, dot, b"\xc2\xb7");
-    name(out, named, stations, objectives, count, index, column)
-}
-
-// Entry i, if it stands in the row.
-fn entry(
-    out: &mut [u8],
-    at: usize,
-    stations: usize,
-    objectives: [Objective; 16],
-    count: usize,
-    index: &[usize],
-    rows: &[u32],
-    columns: &[u32],
-    values: &[f64],
-    row: Row,
-    i: usize,
-) -> usize
-    ensures { says (entry (layout stations objectives count (at_entry index)) (matrix (at_entry rows) (at_entry columns) (at_entry values)) row.at i) out at result }
-{
-    let own = row_at(rows, i);
-    if own.at == row.at {
-        let x = float_at(values, i);
-        let column = column_at(columns, i);
-        return term(out, at, stations, objectives, count, index, x, column);
+impl Assembled<'_> {
+    // x times a column.
+    fn term(&self, out: &mut Writer, x: f64, column: Column)
+        ensures { says (term (layout_in self.now) x column.at) out }
+    {
+        out.words(b" ");
+        plus(out, x);
+        out.number(x);
+        out.words(b"\xc2\xb7");
+        self.layout.name(out, column);
     }
-    at
-}
 
-// The terms of a row.
-fn terms(
-    out: &mut [u8],
-    at: usize,
-    stations: usize,
-    objectives: [Objective; 16],
-    count: usize,
-    index: &[usize],
-    entries: usize,
-    rows: &[u32],
-    columns: &[u32],
-    values: &[f64],
-    row: Row,
-) -> usize
-    ensures { says (over (entry (layout stations objectives count (at_entry index)) (matrix (at_entry rows) (at_entry columns) (at_entry values)) row.at) 0 entries) out at result }
-{
-    let mut next = at;
-    for i in 0..entries {
-        next = entry(
-            out, next, stations, objectives, count, index, rows, columns, values, row, i,
-        );
+    // Entry i, if it stands in the row.
+    #[tactic(auto, using(text::proofs::Laws::written_nothing), unfolding(crate::specs::Rows::entry))]
+    fn entry(&self, out: &mut Writer, row: Row, i: usize)
+        ensures { says (entry (layout_in self.now) (matrix_in self.now) row.at i) out }
+    {
+        if number_at(self.rows, i) == row.at {
+            let x = float_at(self.values, i);
+            let column = Column {
+                at: number_at(self.columns, i),
+            };
+            self.term(out, x, column);
+        }
     }
-    next
-}
 
-pub fn row(
-    out: &mut [u8],
-    at: usize,
-    stations: usize,
-    objectives: [Objective; 16],
-    count: usize,
-    index: &[usize],
-    entries: usize,
-    rows: &[u32],
-    columns: &[u32],
-    values: &[f64],
-    right: &[f64],
-    row: Row,
-) -> usize
-    ensures { says (row_line (layout stations objectives count (at_entry index)) (matrix (at_entry rows) (at_entry columns) (at_entry values)) entries (at_entry right) row.at) out at result }
-{
-    let number = words(out, at, b"  ");
-    let colon = text::decimal(out, number, row.at as u64);
-    let first = words(out, colon, b":");
-    let slack = terms(
-        out, first, stations, objectives, count, index, entries, rows, columns, values, row,
-    );
-    let side = words(out, slack, b" + s = ");
-    let end = text::number(out, side, float_at(right, row.at));
-    words(out, end, b"\n")
-}
-
-// The term of a column in the cost, if it is not zero.
-fn charge(
-    out: &mut [u8],
-    at: usize,
-    stations: usize,
-    objectives: [Objective; 16],
-    count: usize,
-    index: &[usize],
-    cost: &[f64],
-    column: Column,
-) -> usize
-    ensures { says (charge (layout stations objectives count (at_entry index)) (at_entry cost) column.at) out at result }
-{
-    let x = float_at(cost, column.at);
-    if x == 0.0 {
-        return at;
+    // The terms of a row.
+    #[tactic(auto, using(crate::proofs::Laws::written_next, text::proofs::Laws::written_nothing))]
+    fn terms(&self, out: &mut Writer, row: Row)
+        ensures { says (over (entry (layout_in self.now) (matrix_in self.now) row.at) 0 self.now.counts.entries) out }
+    {
+        for i in 0..self.counts.entries {
+            self.entry(out, row, i);
+        }
     }
-    term(out, at, stations, objectives, count, index, x, column)
-}
 
-fn charges(
-    out: &mut [u8],
-    at: usize,
-    stations: usize,
-    objectives: [Objective; 16],
-    count: usize,
-    index: &[usize],
-    cost: &[f64],
-    width: usize,
-) -> usize
-    ensures { says (over (charge (layout stations objectives count (at_entry index)) (at_entry cost)) 0 width) out at result }
-{
-    let mut next = at;
-    for k in 0..width {
-        let column = Column { at: k };
-        next = charge(out, next, stations, objectives, count, index, cost, column);
+    pub fn row(&self, out: &mut Writer, row: Row)
+        ensures { says (row_line (layout_in self.now) (matrix_in self.now) self.now.counts.entries self.now.right.now row.at) out }
+    {
+        out.words(b"  ");
+        out.decimal(row.at as u64);
+        out.words(b":");
+        self.terms(out, row);
+        out.words(b" + s = ");
+        out.number(float_at(self.right, row.at));
+        out.words(b"\n");
     }
-    next
-}
 
-pub fn cost_line(
-    out: &mut [u8],
-    at: usize,
-    stations: usize,
-    objectives: [Objective; 16],
-    count: usize,
-    index: &[usize],
-    cost: &[f64],
-    width: usize,
-) -> usize
-    ensures { says (cost_line (layout stations objectives count (at_entry index)) (at_entry cost) width) out at result }
-{
-    let first = words(out, at, b"cost:");
-    let end = charges(out, first, stations, objectives, count, index, cost, width);
-    words(out, end, b"\n")
+    // The term of a column in the cost, if it is not zero.
+    #[tactic(auto, using(text::proofs::Laws::written_nothing), unfolding(crate::specs::Rows::charge))]
+    fn charge(&self, out: &mut Writer, column: Column)
+        ensures { says (charge (layout_in self.now) self.now.cost.now column.at) out }
+    {
+        let x = float_at(self.cost, column.at);
+        if x == 0.0 {
+            return;
+        }
+        self.term(out, x, column);
+    }
+
+    #[tactic(auto, using(crate::proofs::Laws::written_next, text::proofs::Laws::written_nothing))]
+    fn charges(&self, out: &mut Writer)
+        ensures { says (over (charge (layout_in self.now) self.now.cost.now) 0 self.now.counts.columns) out }
+    {
+        for k in 0..self.counts.columns {
+            self.charge(out, Column { at: k });
+        }
+    }
+
+    pub fn cost_line(&self, out: &mut Writer)
+        ensures { says (cost_line (layout_in self.now) self.now.cost.now self.now.counts.columns) out }
+    {
+        out.words(b"cost:");
+        self.charges(out);
+        out.words(b"\n");
+    }
 }

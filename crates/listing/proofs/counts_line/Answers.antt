@@ -4,4 +4,4 @@ use Rattle.listing.proofs.counts_line.Goals as goal
 
 pub returns : goal.returns
 unfolding counts_line
-returns c = after (after (after (after (after (after (after (after c.words-a.ensures c.decimal-b.ensures) c.words-c.ensures) c.decimal-d.ensures) c.words-e.ensures) c.decimal-f.ensures) c.words-g.ensures) c.decimal-h.ensures) c.words.ensures
+returns c = search (after) depth 12

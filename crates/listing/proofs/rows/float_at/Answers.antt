@@ -1,8 +1,7 @@
-use lib.Ieee.{nan, div, of_bits}
-use lib.ListN.{get_or-eq_default}
-use mathlib.Core.Path.{sym}
+use Rattle.std.proofs.Common.{rules}
+use lib.Ieee.{div, of_bits}
 use Rattle.listing.proofs.rows.float_at.Goals as goal
 
-pub returns-else-i-xs : goal.returns-else-i-xs
+pub returns : goal.returns
 unfolding div of_bits
-returns-else-i-xs c = sym (get_or-eq_default c.args.xs.now nan {n = c.args.i} c.if-i-xs.false)
+returns c = search rules
