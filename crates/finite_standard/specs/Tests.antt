@@ -2,6 +2,8 @@
 use Rattle.std.specs.Prelude.{Bool, ◌&&◌, List, ℕ, ◌-◌, Float, ltb}
 use Rattle.model.specs.Numbers.{at, finite, ◌⊕◌, ◌⊖◌, ◌⊗◌, ◌⊘◌, +1, −2}
 use Rattle.model.specs.Problem.{Path, spacing, stop}
+use Rattle.acc_jerk.specs.Tables.{jerk_value}
+use Rattle.acc_jerk.specs.declared.Form.{Form}
 use Rattle.finiteness.specs.Finite.{each, if_test}
 
 -- an interval: a spacing, and what stands for twice it
@@ -14,7 +16,11 @@ acc_test a b h k = finite (at a k) && (finite (at b k) && finite (at h k))
 abbrev pub pair_test : List Float → List Float → ℕ → Bool
 pair_test a h k = finite (at a k) && finite (at h k)
 
--- of a jerk row the sum alone: a product that is not finite makes it not finite too
+-- of a jerk row one number alone, in one of its forms
+abbrev pub jerk_test : Form → List Float → List Float → Float → ℕ → Bool
+jerk_test form b c r k = finite (jerk_value form (at b k) (at c k) r)
+
+-- the sum: a product that is not finite makes it not finite too
 abbrev pub back_test : List Float → List Float → Float → ℕ → Bool
 back_test b c r k = finite (at b k ⊕ at c k ⊗ r)
 
