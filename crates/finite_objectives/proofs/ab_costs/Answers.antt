@@ -1,4 +1,4 @@
-use Rattle.std.proofs.Common.{arith, rules, tests, ◌≡◌, ◌∙◌, sym, ap}
+use Rattle.std.proofs.Common.{arith, rules, tests, ◌∙◌, sym, ap}
 use mathlib.Core.List.{List}
 use Rattle.model.specs.Numbers.{finite, +0}
 use Rattle.model.specs.Problem.{is_linear}

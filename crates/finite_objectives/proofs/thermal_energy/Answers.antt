@@ -1,5 +1,5 @@
 use Rattle.std.proofs.Common.{rules, ◌∙◌}
-use Rattle.model.specs.Problem.{skip, stop}
+use Rattle.model.specs.Problem.{skip}
 use Rattle.buffers.specs.Paths.{path_of}
 use Rattle.torque.specs.Tables.{tables_of}
 use Rattle.finite_objectives.specs.Tests.{thermal_at}
