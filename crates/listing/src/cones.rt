@@ -50,7 +50,7 @@ impl Assembled<'_> {
     }
 
     // All cones. Where a dimension leads past the last row, the cone ends there.
-    pub fn cones(&self, out: &mut Writer)
+    pub(crate) fn cones(&self, out: &mut Writer)
         ensures { says (over (cone (layout_in self.now) (matrix_in self.now) self.now.counts.entries self.now.right.now self.now.counts.rows self.now.kinds.now self.now.dimensions.now) 0 self.now.counts.cones) out }
     {
         let mut first = Row { at: 0 };

@@ -16,16 +16,16 @@ use text::Writer;
 
 // An accepted problem: what its names and owners go by, its four counts, and what buffers 0 to 6 hold.
 #[derive(Clone, Copy)]
-pub struct Assembled<'a> {
-    pub layout: Layout<'a>,
-    pub counts: FourCounts,
-    pub rows: &'a [u32],
-    pub columns: &'a [u32],
-    pub values: &'a [f64],
-    pub right: &'a [f64],
-    pub kinds: &'a [u8],
-    pub dimensions: &'a [u32],
-    pub cost: &'a [f64],
+struct Assembled<'a> {
+    layout: Layout<'a>,
+    counts: FourCounts,
+    rows: &'a [u32],
+    columns: &'a [u32],
+    values: &'a [f64],
+    right: &'a [f64],
+    kinds: &'a [u8],
+    dimensions: &'a [u32],
+    cost: &'a [f64],
 }
 
 fn counts_line(out: &mut Writer, counts: FourCounts)
