@@ -27,14 +27,14 @@ fn sign_mark(x: f64) -> u8
 impl Assembled<'_> {
     // Whether entry i stands at a row and a column.
     fn stands_at(&self, i: usize, row: Row, column: Column) -> bool
-        ensures { result ≡ (nat_eq (get_or self.now.rows.now i 0) row.at && nat_eq (get_or self.now.columns.now i 0) column.at) }
+        ensures { result ≡ (nat_eq (get_or self.now.contents.rows.now i 0) row.at && nat_eq (get_or self.now.contents.columns.now i 0) column.at) }
     {
         self.row_at(i).at == row.at && self.column_at(i).at == column.at
     }
 
     // The first entry at a row and a column.
     fn first_at(&self, row: Row, column: Column) -> Option<usize>
-        ensures { result ≡ find (λ i. nat_eq (get_or self.now.rows.now i 0) row.at && nat_eq (get_or self.now.columns.now i 0) column.at) (range_with_len 0 self.now.counts.entries) }
+        ensures { result ≡ find (λ i. nat_eq (get_or self.now.contents.rows.now i 0) row.at && nat_eq (get_or self.now.contents.columns.now i 0) column.at) (range_with_len 0 self.now.counts.entries) }
     {
         (0..self.counts.entries).find(|i| self.stands_at(*i, row, column))
     }
@@ -45,7 +45,7 @@ impl Assembled<'_> {
         ensures { result ≡ mark_from (matrix_in self.now) row.at column.at 0 self.now.counts.entries }
     {
         match self.first_at(row, column) {
-            Some(i) => sign_mark(float_at(self.values, i)),
+            Some(i) => sign_mark(float_at(self.contents.values, i)),
             None => b'.',
         }
     }
