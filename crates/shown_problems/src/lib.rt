@@ -7,7 +7,8 @@ ghost use Rattle.model.specs.Lent.{buffers_of, SameBuffers};
 ghost use Rattle.shown_problems.specs.Problems.{small, three_stations, problem_at, stations_at, count_at, objectives_at, job_with};
 
 use model::{
-    Acceleration, Answer, Boundary, Bounds, Buffers, Ends, Jerk, Job, Objective, Problem, Roots, Torque,
+    Acceleration, Answer, Boundary, Bounds, Buffers, Ends, Jerk, Job, Objective, Problem, Roots,
+    Torque,
 };
 
 // How many stations problem number i has.

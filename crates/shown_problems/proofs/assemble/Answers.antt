@@ -1,12 +1,18 @@
+use Rattle.std.proofs.Common.{rules}
+use mathlib.Core.Path.{refl, sym}
+use lib.Ieee.{of_bits}
 use Rattle.shown_problems.specs.Problems.{problem_at}
 use Rattle.shown_problems.proofs.Shown.{of_same, past_one}
 use Rattle.shown_problems.proofs.assemble.Goals as goal
-use Rattle.shown_problems.proofs.assemble.Goals.{then-i-eq0, else-i-eq0}
 
-pub returns-then-i-eq1 : goal.returns-then-i-eq1
-unfolding problem_at
-returns-then-i-eq1 c = of_same _ _ _ c.small.ensures (rw c.if-i-eq1.true)
+pub returns-in-0-clause-answer : goal.returns-in-0-clause-answer
+unfolding problem_at of_bits
+returns-in-0-clause-answer c = of_same _ _ _ c.three_stations.ensures.answer (rw c.in-0.is refl)
 
-pub returns : goal.returns
-unfolding problem_at
-returns c = of_same _ _ _ c.three_stations.ensures (elim c.if-i-eq0.branch [ then-i-eq0 w ↦ rw (w.last-is, w.if-i-eq0.true) | else-i-eq0 w ↦ rw (w.last-is, past_one _ w.if-i-eq0.false c.if-i-eq1.false) ])
+pub returns-in-1-clause-answer : goal.returns-in-1-clause-answer
+unfolding problem_at of_bits
+returns-in-1-clause-answer c = of_same _ _ _ c.small.ensures.answer (rw c.in-1.is refl)
+
+pub returns-in_default-clause-answer : goal.returns-in_default-clause-answer
+unfolding of_bits
+returns-in_default-clause-answer c = of_same _ _ _ c.three_stations-in_default.ensures.answer (sym (past_one _ (search rules) (search rules)))
