@@ -6,10 +6,10 @@ use lib.ListN.{length, take}
 use lib.Seq.{length-take-le}
 use native.Mathlib.Omega.{arith}
 use Rattle.model.specs.Answers.{Buffers, answered, assembly}
-use Rattle.model.specs.declared.Answer.{Answer}
+use Rattle.model.specs.Verdicts.{Answer}
 use Rattle.model.specs.declared.Objective.{Objective}
 use Rattle.text.specs.Text.{Says}
-use Rattle.text.proofs.Laws.{renamed, next_within}
+use Rattle.text.proofs.Bytes.{renamed, next_within}
 use Rattle.listing.specs.Page.{page_of}
 use Rattle.shown_problems.specs.Problems.{problem_at, stations_at, objectives_at, count_at}
 use Rattle.show.specs.Shown.{lent_here, Shown}

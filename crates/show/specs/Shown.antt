@@ -2,7 +2,7 @@
 use Rattle.std.specs.Prelude.{ℕ, ◌≡◌, List, replicate}
 use Rattle.model.specs.Numbers.{+0}
 use Rattle.model.specs.Answers.{Buffers, buffers, answered, assembly}
-use Rattle.model.specs.declared.Answer.{Answer}
+use Rattle.model.specs.Verdicts.{Answer}
 use Rattle.shown_problems.specs.Problems.{problem_at, stations_at, objectives_at, count_at}
 use Rattle.text.specs.Text.{Says}
 use Rattle.listing.specs.Page.{page_of}

@@ -4,6 +4,7 @@
 ghost use Rattle.std.specs.Prelude.{◌≡◌, ◌≤◌, length, take};
 ghost use Rattle.show.specs.Shown.{Shown};
 
+use listing::Contents;
 use model::Buffers;
 use std::io;
 use text::Writer;
@@ -37,7 +38,8 @@ fn page_at(i: usize, out: &mut [u8]) -> usize
     let objectives = shown_problems::objectives_at(i);
     let count = shown_problems::objective_count_at(i);
     let mut page = Writer { buffer: out, at: 0 };
-    listing::page(&mut page, answer, stations, &objectives, count, &buffers);
+    let contents = Contents::from(&buffers);
+    listing::page(&mut page, answer, stations, &objectives, count, &contents);
     page.at
 }
 
