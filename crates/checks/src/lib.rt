@@ -115,7 +115,7 @@ fn is_past(pool: usize, start: usize, len: usize) -> bool
 }
 
 // Refusal 12 of one list.
-#[tactic(auto, using(crate::proofs::Chain::then_ok, crate::proofs::Chain::then_err), unfolding(model::specs::Refusals::list_refusal))]
+#[tactic(auto, unfolding(model::specs::Refusals::list_refusal))]
 fn check_list(pool: &[f64], place: usize, long: usize, start: usize, len: usize) -> Verdict
     ensures { result ≡ list_refusal pool.now place long start len }
 {
@@ -212,7 +212,7 @@ fn is_still(n: usize, ends: Ends) -> bool
 }
 
 // Refusal 15 of table t.
-#[tactic(auto, using(crate::proofs::Chain::then_ok, crate::proofs::Chain::then_err), unfolding(model::specs::Refusals::table))]
+#[tactic(auto, unfolding(model::specs::Refusals::table))]
 fn check_table(t: usize, have: usize, need: usize) -> Verdict
     ensures { result ≡ table t have need }
 {
@@ -220,7 +220,7 @@ fn check_table(t: usize, have: usize, need: usize) -> Verdict
 }
 
 // The same of a table that may not count.
-#[tactic(auto, using(crate::proofs::Chain::then_ok, crate::proofs::Chain::then_err), unfolding(model::specs::Refusals::table_if))]
+#[tactic(auto, unfolding(model::specs::Refusals::table_if))]
 fn check_table_if(counts: bool, t: usize, have: usize, need: usize) -> Verdict
     ensures { result ≡ table_if counts t have need }
 {

@@ -1,2 +1,2 @@
-pub mod Torque
 pub mod Costs
+pub mod Torque

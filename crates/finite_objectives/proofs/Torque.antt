@@ -2,13 +2,12 @@
 use mathlib.Core.Path.{◌≡◌, refl, sym, ap, ap₂, ◌∙◌}
 use mathlib.Core.Bool.{Bool, true, false, ◌&&◌}
 use mathlib.Core.List.{List, [], ◌∷◌, ◌++◌, append-nil}
-use Prim.Native.Nat.{ℕ, zero, suc, ◌+◌, ◌*◌, ◌-◌, ◌<◌, max}
-use native.Mathlib.Nat.{suc-mul, mul-pos}
-use native.Mathlib.Numerals.{add-one}
+use Prim.Native.Nat.{ℕ, zero, suc, ◌+◌, ◌*◌, ◌-◌, ◌<◌}
+use native.Mathlib.Nat.{mul-pos}
 use native.Mathlib.Omega.{arith}
 use lib.Dec.{ltb}
 use lib.Ieee.{Float, neg, of_bits}
-use lib.ListN.{length, replicate}
+use lib.ListN.{replicate}
 use Rattle.model.specs.Numbers.{finite, at, ◌⊕◌, ◌⊖◌, ◌⊗◌, +4}
 use Rattle.model.specs.Lists.{list, over, given}
 use Rattle.model.specs.Problem.{Path, Torque, stop, skip, m, n, L, ends, flag}
@@ -20,17 +19,11 @@ use Rattle.finiteness.specs.Finite.{each, Each, if_test, finite_bands, finite_co
 use Rattle.finite_objectives.specs.Tests.{times, joint_test, joint_end_test, thermal_end, thermal_at, step_test, end_test}
 use Rattle.model.proofs.Values.{finite_neg}
 use Rattle.finiteness.proofs.Laws.{and_true, and_swap, each_same, each_and, finite_append, finite_over, cones_append, list_finite, finite_given, list_cones}
-
-pub row_next : (k d : ℕ) → (k + 1) * d ≡ k * d + d
-row_next k d = ap (λ (j : ℕ). j * d) (add-one k) ∙ suc-mul k d
+use Rattle.finite_objectives.proofs.Costs.{from_zero}
 
 pub own_columns : (q : Path) (d : ℕ) → q.N0 + q.N1 < n q → 0 < d → 0 < d * (ends q + m q)
 unfolding m
 own_columns q d l h = mul-pos h (omega arith)
-
-pub xi_stations : (q : Path) {a c j : ℕ} → a ≡ max q.N0 1 → c ≡ L q → 2 < length q.grid → j < c → a + j < length q.grid
-unfolding L
-xi_stations q e f l h = omega arith
 
 -- ---- flags
 
@@ -39,7 +32,7 @@ if_and true x y = refl
 if_and false x y = refl
 
 -- two rows of three numbers, and of five, of which the last is a constant
-two : (a b u v : Bool) → (((a && true) && ((b && true) && true)) && (u && true)) && ((((a && true) && ((b && true) && true)) && (v && true)) && true) ≡ ((a && b) && (u && v))
+two : (a b u v : Bool) → (((a && true) && ((b && true) && true)) && (u && true)) && ((((a && true) && ((b && true) && true)) && (v && true)) && true) ≡ (a && (b && (u && v)))
 two false b u v = refl
 two true false u v = refl
 two true true false v = refl
@@ -48,7 +41,7 @@ two true true true true = refl
 
 six : (a c b d u v : Bool)
     → (((a && true) && ((c && true) && ((b && true) && ((d && true) && true)))) && (u && true)) && ((((a && true) && ((c && true) && ((b && true) && ((d && true) && true)))) && (v && true)) && true)
-    ≡ ((a && (c && b)) && (d && (u && v)))
+    ≡ (a && (c && (b && (d && (u && v)))))
 six false c b d u v = refl
 six true false b d u v = refl
 six true true false d u v = refl
@@ -109,7 +102,7 @@ replicate_finite (suc c) w l = go c where
 
 pub torque_scanned : (q : Path) (x : Torque) (y : List Float) (w : Float) (c : ℕ) → 0 < x.d * (ends q + m q) → {f g r v : Bool}
     → f ≡ if_test (ltb 0 q.N0) (each (end_test x y q.N0 0) 0 x.d) → g ≡ if_test (ltb 0 q.N1) (each (end_test x y (stop q) (n q)) 0 x.d)
-    → Each r (λ j. each (step_test x y (q.N0 + j)) 0 x.d) 0 (m q) → v ≡ finite w
+    → Each r (λ k. each (step_test x y k) 0 x.d) q.N0 (m q) → v ≡ finite w
     → ((f && g) && (r && v)) ≡ finite_block (torque_block q x w y c)
 unfolding torque_block
 torque_scanned q x y w c l {f} {g} {r} {v} first second rest weight =
@@ -120,7 +113,7 @@ torque_scanned q x y w c l {f} {g} {r} {v} first second rest weight =
     let g1 = given (ltb 0 q.N1) e1 in
     let one : f ≡ finite_bands g0 = first ∙ sym (ends_scanned q x y (ltb 0 q.N0) c q.N0 0) in
     let two : g ≡ finite_bands g1 = second ∙ sym (ends_scanned q x y (ltb 0 q.N1) (c + x.d * flag q.N0) (stop q) (n q)) in
-    let three : r ≡ finite_bands st = rest.says ∙ sym (steps_scanned q x y (λ j. c + x.d * (ends q + j)) (m q)) in
+    let three : r ≡ finite_bands st = (from_zero rest).says ∙ sym (steps_scanned q x y (λ j. c + x.d * (ends q + j)) (m q)) in
     sym (and_assoc (f && g) r v)
     ∙ ap₂ (λ (a b : Bool). a && b)
     (ap₂ (λ (a b : Bool). a && b) (ap₂ (λ (a b : Bool). a && b) one two ∙ sym (finite_append g0 g1)) three ∙ sym (finite_append (g0 ++ g1) st) ∙ ap finite_bands (sym (append-nil (g0 ++ g1 ++ st))))
@@ -167,7 +160,7 @@ one_cost false w = refl
 
 pub thermal_scanned : (q : Path) (x : Torque) (weights : List Float) (w : Float) (y : List Float) (c : ℕ) → {f g r : Bool}
     → f ≡ if_test (ltb 0 q.N0) (thermal_end x y weights w q.N0 0) → g ≡ if_test (ltb 0 q.N1) (thermal_end x y weights w (stop q) (n q))
-    → Each r (λ j. thermal_at x y weights w (skip q + j)) 0 (L q)
+    → Each r (thermal_at x y weights w) (skip q) (L q)
     → ((f && g) && r) ≡ finite_block (thermal_block q x weights w y c)
 unfolding thermal_block
 thermal_scanned q x weights w y c {f} {g} {r} first second rest =
@@ -195,7 +188,7 @@ thermal_scanned q x weights w y c {f} {g} {r} first second rest =
     second ∙ sym (if_and b1 (each (joint_end_test x y (stop q) (n q)) 0 d) (finite z1))
     ∙ ap₂ (λ (a b : Bool). a && b) (ap (if_test b1) (sym (cone_end q x y (c + flag q.N0) (L q - 1) (stop q) (n q))) ∙ sym (one_cone b1 c1)) (sym (one_cost b1 z1)) in
     let three : r ≡ (CL && KL) =
-    rest.says ∙ each_and (λ j. each (joint_test x y (skip q + j)) 0 d) (λ j. finite (zj j)) 0 (L q)
+    (from_zero rest).says ∙ each_and (λ j. each (joint_test x y (skip q + j)) 0 d) (λ j. finite (zj j)) 0 (L q)
     ∙ ap₂ (λ (a b : Bool). a && b)
     (each_same (λ j. each (joint_test x y (skip q + j)) 0 d) (λ j. finite_bands (cj j).bands) 0 (L q) (λ j. sym (cone_moving q x y (c + ends q + j) j (skip q + j))) ∙ sym (list_cones cj 0 (L q)))
     (sym (list_finite zj 0 (L q))) in

@@ -139,14 +139,14 @@ module _ (q : Path) (t : Jerk) (k : ℕ) where
     go false true e f = refl
     go false false e f = absurd (omega (arith, ltb-false a b e, ltb-false b c f))
 
-  pub jerk_scanned : {x c : ℕ} {u v w r : Bool} → q.N0 < stop q → x ≡ total (take k t.counts) → c ≡ get_or t.counts k 0 → Each u (pair_test t.a t.max) x c
-      → v ≡ back_at q t.b t.c k x c → w ≡ ahead_at q t.b t.c k x c → r ≡ (u && (v && w)) → r ≡ finite_bands (jerk_rows_at q t k)
+  pub jerk_scanned : {x : ℕ} {u v w r : Bool} → q.N0 < stop q → x ≡ total (take k t.counts) → Each u (pair_test t.a t.max) x h
+      → v ≡ back_at q t.b t.c k x h → w ≡ ahead_at q t.b t.c k x h → r ≡ (u && (v && w)) → r ≡ finite_bands (jerk_rows_at q t k)
   unfolding jerk_rows_at
-  jerk_scanned {x} {c} l e f p g j z =
+  jerk_scanned {x} l e p g j z =
       let one =
       groups (ltb q.N0 k) (ltb k (stop q)) (backward_rows q t k) (forward_rows q t k) (each (pair_test t.a t.max) o h)
       (each (back_test t.b t.c (+1 ⊘ spacing q (k - 1))) o h) (each (ahead_test t.b t.c (+1 ⊘ spacing q k)) o h) (either q.N0 k (stop q) l) back_band ahead_band in
-      z ∙ rw (p.says, g, j, e, f) (sym one)
+      z ∙ rw (p.says, g, j, e) (sym one)
 
 -- over the moving stations
 pub over_scanned : (f : ℕ → List Band) {r : Bool} {k c : ℕ} → Each r (λ i. finite_bands (f i)) k c → r ≡ finite_bands (over f k c)

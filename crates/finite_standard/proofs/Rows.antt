@@ -21,11 +21,11 @@ use Rattle.finiteness.proofs.Laws.{and_true, each_same, each_from, finite_append
 
 -- ---- equalities and first-order rows
 
-boundary_scanned : (q : Path) (x : Boundary) → finite_bands (boundary_rows q x) ≡ ((finite x.a0 && finite x.a1) && (finite x.b0 && finite x.b1))
+boundary_scanned : (q : Path) (x : Boundary) → finite_bands (boundary_rows q x) ≡ (finite x.a0 && (finite x.a1 && (finite x.b0 && finite x.b1)))
 unfolding boundary_rows of_bits
 boundary_scanned q x = go (finite x.a0) (finite x.a1) (finite x.b0) (finite x.b1)
   where
-    go : (a b c d : Bool) → ((a && true) && ((b && true) && ((c && true) && ((d && true) && true)))) ≡ ((a && b) && (c && d))
+    go : (a b c d : Bool) → ((a && true) && ((b && true) && ((c && true) && ((d && true) && true)))) ≡ (a && (b && (c && d)))
     go false b c d = refl
     go true false c d = refl
     go true true false d = refl
@@ -52,7 +52,7 @@ moving_scanned q =
     go true = refl
     go false = refl
 
-pub equal_scanned : (q : Path) (x : Boundary) {a b c d : Bool} → a ≡ ((finite x.a0 && finite x.a1) && (finite x.b0 && finite x.b1))
+pub equal_scanned : (q : Path) (x : Boundary) {a b c d : Bool} → a ≡ (finite x.a0 && (finite x.a1 && (finite x.b0 && finite x.b1)))
     → b ≡ if_test (ltb 0 q.N0) (finite (−1½ ⊗ (s q q.N0 ⊖ s q 0))) → c ≡ if_test (ltb 0 q.N1) (finite (−1½ ⊗ (s q (stop q) ⊖ s q (n q))))
     → Each d (λ k. finite (spacing q k)) q.N0 (m q) → (((a && b) && c) && d) ≡ finite_bands (equalities q x)
 unfolding equalities

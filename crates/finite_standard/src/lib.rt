@@ -2,290 +2,159 @@
 
 #![tactic(auto)]
 
-ghost use Rattle.std.specs.Prelude.{◌≡◌, true, ◌&&◌, ◌+◌, ◌-◌, ◌*◌, ◌<◌, ◌≤◌, ltb, length, get_or, take};
-ghost use Rattle.model.specs.Lent.{at_entry};
-ghost use Rattle.model.specs.Numbers.{finite, at, ◌⊗◌, ◌⊖◌, −1½};
-ghost use Rattle.model.specs.Lists.{list, over, total};
-ghost use Rattle.model.specs.Problem.{m};
+ghost use Rattle.std.specs.Prelude.{◌≡◌, ◌+◌, ◌-◌, ◌<◌, ltb, length, get_or};
+ghost use Rattle.model.specs.Numbers.{finite, ◌⊘◌, +1};
+ghost use Rattle.model.specs.Lists.{list, over};
+ghost use Rattle.model.specs.Problem.{m, spacing};
 ghost use Rattle.model.specs.Standard.{acceleration_rows, jerk_rows_at, equalities, first_order};
-ghost use Rattle.buffers.specs.Inputs.{path, Sized};
-ghost use Rattle.acc_jerk.specs.Tables.{acc_of, jerk_of, AccSized, JerkSized};
+ghost use Rattle.buffers.specs.Paths.{path_of};
+ghost use Rattle.acc_jerk.specs.Tables.{acc_of, jerk_of};
 ghost use Rattle.finiteness.specs.Finite.{Each, if_test, finite_bands, finite_cones};
-ghost use Rattle.finite_standard.specs.Tests.{acc_test, pair_test, back_test, ahead_test, back_at, ahead_at, twice_test};
-ghost use Rattle.first_order.specs.Limits.{limits};
-ghost use Rattle.standard.specs.Block.{standard_cones};
+ghost use Rattle.finite_standard.specs.Tests.{jerk_test, back_at, ahead_at};
+ghost use Rattle.first_order.specs.Limits.{limits_of};
+ghost use Rattle.standard.specs.Input.{cones_of};
 
-use finiteness::{both_finite, three_finite};
-use model::{Boundary, Bounds, Ends};
+use acc_jerk::{AccelerationRows, Form, JerkRows, JerkStation, jerk_value};
+use buffers::Path;
+use finiteness::{all_finite, every};
+use first_order::Limits;
+use model::Boundary;
 use numbers::{both, is_finite};
+use standard::StandardInput;
 
-// The right sides of the boundary rows; their values are constants.
-fn boundary_states(boundary: Boundary) -> bool
-    ensures { result ≡ ((finite boundary.a0 && finite boundary.a1) && (finite boundary.b0 && finite boundary.b1)) }
-{
-    both(
-        both(is_finite(boundary.a0), is_finite(boundary.a1)),
-        both(is_finite(boundary.b0), is_finite(boundary.b1)),
-    )
-}
-
-// The stationary row of station k, where its end z has a positive count n.
-fn stationary(grid: &[f64], k: usize, z: usize, stationary: usize) -> bool
-    requires { (k < length grid.now) × (z < length grid.now) }
-    ensures { result ≡ if_test (ltb 0 stationary) (finite (−1½ ⊗ (at (at_entry grid) k ⊖ at (at_entry grid) z))) }
+// A number of a row that an end has where its count is positive.
+fn at_end(stationary: usize, x: f64) -> bool
+    ensures { result ≡ if_test (ltb 0 stationary) (finite x) }
 {
     if stationary == 0 {
         return true;
     }
-    is_finite(-1.5 * (grid[k] - grid[z]))
+    is_finite(x)
 }
 
-// The moving rows: spacings.
-fn spacings(grid: &[f64], from: usize, count: usize) -> bool
-    requires { from + count < length grid.now }
-    ensures { Each result (λ k. finite (at (at_entry grid) (k + 1) ⊖ at (at_entry grid) k)) from count }
+// Module 2: the right sides of the boundary rows, the stationary rows, the spacings of the moving rows. Their other numbers are constants.
+#[tactic(auto, unfolding(model::specs::Problem::m, model::specs::Problem::stop))]
+fn equalities(path: Path, boundary: Boundary) -> bool
+    ensures { result ≡ finite_bands (equalities (path_of path.entry) boundary) }
 {
-    let mut ok = true;
-    for i in 0..count {
-        ok = both(ok, is_finite(buffers::spacing(grid, from + i)));
-    }
-    ok
-}
-
-// Module 2: boundary, stationary and moving rows.
-fn equalities(grid: &[f64], ends: Ends, boundary: Boundary) -> bool
-    requires { Sized grid.now ends }
-    ensures { result ≡ finite_bands (equalities (path (at_entry grid) ends) boundary) }
-{
-    let last = grid.len() - 1;
-    let one = boundary_states(boundary);
-    let two = stationary(grid, ends.n0, 0, ends.n0);
-    let three = stationary(grid, last - ends.n1, last, ends.n1);
-    let four = spacings(grid, ends.n0, last - ends.n0 - ends.n1);
+    let grid = path.grid;
+    let (first, last) = (path.ends.n0, path.stop());
+    let one = all_finite([boundary.a0, boundary.a1, boundary.b0, boundary.b1]);
+    let two = at_end(path.ends.n0, -1.5 * (grid[first] - grid[0]));
+    let three = at_end(path.ends.n1, -1.5 * (grid[last] - grid[path.last()]));
+    let four = every(
+        first,
+        path.moving(),
+        |k| is_finite(buffers::spacing(grid, k)),
+    );
     both(both(both(one, two), three), four)
 }
 
-// The lower row of an end with count n.
-fn minimum(bounds: Bounds, stationary: usize) -> bool
-    ensures { result ≡ if_test (ltb 0 stationary) (finite bounds.minimum) }
+// Module 3: the lower rows of the ends, and of each interval its spacing, and -2 times that, which may overflow where the spacing does not.
+// The upper rows are there only where their bound is finite.
+#[tactic(auto, unfolding(model::specs::Problem::m))]
+fn first_order(limits: Limits) -> bool
+    ensures { result ≡ finite_bands (first_order (path_of limits.entry.path) (limits_of limits.entry)) }
 {
-    if stationary == 0 {
-        return true;
-    }
-    is_finite(bounds.minimum)
-}
-
-// The interval rows: spacings, and -2 times the spacing, which may overflow where the spacing does not.
-fn intervals(grid: &[f64], from: usize, count: usize) -> bool
-    requires { from + count < length grid.now }
-    ensures { Each result (λ k. twice_test (at (at_entry grid) (k + 1) ⊖ at (at_entry grid) k)) from count }
-{
-    let mut ok = true;
-    for i in 0..count {
-        let h = buffers::spacing(grid, from + i);
-        ok = both(ok, both(is_finite(h), is_finite(-2.0 * h)));
-    }
-    ok
-}
-
-// Module 3. The upper rows are there only where their bound is finite.
-fn first_order(grid: &[f64], ends: Ends, amax: &[f64], start: Bounds, end: Bounds) -> bool
-    requires { Sized grid.now ends }
-    ensures { result ≡ finite_bands (first_order (path (at_entry grid) ends) (limits start end (at_entry amax))) }
-{
-    let one = minimum(start, ends.n0);
-    let two = minimum(end, ends.n1);
-    let three = intervals(grid, ends.n0, grid.len() - 1 - ends.n0 - ends.n1);
+    let path = limits.path;
+    let grid = path.grid;
+    let one = at_end(path.ends.n0, limits.start.minimum);
+    let two = at_end(path.ends.n1, limits.end.minimum);
+    let three = every(path.ends.n0, path.moving(), |k| {
+        let h = buffers::spacing(grid, k);
+        all_finite([h, -2.0 * h])
+    });
     both(both(one, two), three)
 }
 
-// A part of the acceleration tables.
-fn acc_part(acc_a: &[f64], acc_b: &[f64], acc_max: &[f64], from: usize, count: usize) -> bool
-    requires { (from + count ≤ length acc_a.now) × (length acc_b.now ≡ length acc_a.now) × (length acc_max.now ≡ length acc_a.now) }
-    ensures { Each result (acc_test (at_entry acc_a) (at_entry acc_b) (at_entry acc_max)) from count }
-{
-    let mut ok = true;
-    for i in 0..count {
-        let k = from + i;
-        ok = both(ok, three_finite(acc_a[k], acc_b[k], acc_max[k]));
-    }
-    ok
-}
-
 // The acceleration rows: those of the stations that move on both sides stand one after another in the tables.
-fn acceleration(
-    grid: &[f64],
-    ends: Ends,
-    acc_rows: &[u32],
-    acc_a: &[f64],
-    acc_b: &[f64],
-    acc_max: &[f64],
-) -> bool
-    requires { Sized grid.now ends × AccSized grid.now acc_rows.now acc_a.now acc_b.now acc_max.now }
-    ensures { result ≡ finite_bands (list (acceleration_rows (path (at_entry grid) ends) (acc_of (at_entry acc_rows) (at_entry acc_a) (at_entry acc_b) (at_entry acc_max))) (ends.n0 + 1) (m (path (at_entry grid) ends) - 1)) }
+#[tactic(auto, unfolding(model::specs::Problem::stop))]
+fn acceleration(rows: AccelerationRows) -> bool
+    ensures { result ≡ finite_bands (list (acceleration_rows (path_of rows.entry.path) (acc_of rows.entry.tables)) (rows.entry.path.ends.n0 + 1) (m (path_of rows.entry.path) - 1)) }
 {
-    let first = acc_jerk::offset(acc_rows, ends.n0 + 1);
-    let last = acc_jerk::offset(acc_rows, grid.len() - 1 - ends.n1);
-    acc_part(acc_a, acc_b, acc_max, first, last - first)
-}
-
-// What a station's two groups of jerk rows share.
-fn jerk_pairs(jerk_a: &[f64], jerk_max: &[f64], from: usize, count: usize) -> bool
-    requires { (from + count ≤ length jerk_a.now) × (length jerk_max.now ≡ length jerk_a.now) }
-    ensures { Each result (pair_test (at_entry jerk_a) (at_entry jerk_max)) from count }
-{
-    let mut ok = true;
-    for i in 0..count {
-        let k = from + i;
-        ok = both(ok, both_finite(jerk_a[k], jerk_max[k]));
-    }
-    ok
-}
-
-// Of a row the sum alone: a product that is not finite makes it not finite too.
-fn jerk_back(jerk_b: &[f64], jerk_c: &[f64], r: f64, from: usize, count: usize) -> bool
-    requires { (from + count ≤ length jerk_b.now) × (length jerk_c.now ≡ length jerk_b.now) }
-    ensures { Each result (back_test (at_entry jerk_b) (at_entry jerk_c) r) from count }
-{
-    let mut ok = true;
-    for i in 0..count {
-        let k = from + i;
-        ok = both(ok, is_finite(jerk_b[k] + jerk_c[k] * r));
-    }
-    ok
-}
-
-fn jerk_ahead(jerk_b: &[f64], jerk_c: &[f64], r: f64, from: usize, count: usize) -> bool
-    requires { (from + count ≤ length jerk_b.now) × (length jerk_c.now ≡ length jerk_b.now) }
-    ensures { Each result (ahead_test (at_entry jerk_b) (at_entry jerk_c) r) from count }
-{
-    let mut ok = true;
-    for i in 0..count {
-        let k = from + i;
-        ok = both(ok, is_finite(jerk_b[k] - jerk_c[k] * r));
-    }
-    ok
-}
-
-// The sums of the backward group of station k, unless it is the first.
-fn back_at(
-    grid: &[f64],
-    ends: Ends,
-    jerk_b: &[f64],
-    jerk_c: &[f64],
-    k: usize,
-    from: usize,
-    count: usize,
-) -> bool
-    requires { Sized grid.now ends × (k < length grid.now) × (from + count ≤ length jerk_b.now) × (length jerk_c.now ≡ length jerk_b.now) }
-    ensures { result ≡ back_at (path (at_entry grid) ends) (at_entry jerk_b) (at_entry jerk_c) k from count }
-{
-    if k <= ends.n0 {
-        return true;
-    }
-    jerk_back(
-        jerk_b,
-        jerk_c,
-        1.0 / buffers::spacing(grid, k - 1),
-        from,
-        count,
+    let tables = rows.tables;
+    let first = acc_jerk::offset(tables.rows, rows.path.ends.n0 + 1);
+    let last = acc_jerk::offset(tables.rows, rows.path.stop());
+    every(
+        first,
+        last - first,
+        |k| all_finite([tables.a[k], tables.b[k], tables.max[k]]),
     )
 }
 
-// The sums of the forward group of station k, unless it is the last.
-fn ahead_at(
-    grid: &[f64],
-    ends: Ends,
-    jerk_b: &[f64],
-    jerk_c: &[f64],
-    k: usize,
-    from: usize,
-    count: usize,
-) -> bool
-    requires { Sized grid.now ends × (k < length grid.now) × (from + count ≤ length jerk_b.now) × (length jerk_c.now ≡ length jerk_b.now) }
-    ensures { result ≡ ahead_at (path (at_entry grid) ends) (at_entry jerk_b) (at_entry jerk_c) k from count }
+// The sums of a station's jerk rows, on the interval from station j on. Of a row the sum alone: a product that is not finite makes it not finite too.
+fn sums(station: JerkStation, j: usize, form: Form) -> bool
+    requires { j + 1 < length station.rows.path.grid.now }
+    ensures { Each result (jerk_test form station.entry.rows.tables.b.now station.entry.rows.tables.c.now (+1 ⊘ spacing (path_of station.entry.rows.path) j)) station.entry.from (get_or station.entry.rows.tables.rows.now station.entry.k 0) }
 {
-    if grid.len() - 1 - ends.n1 <= k {
-        return true;
-    }
-    jerk_ahead(jerk_b, jerk_c, 1.0 / buffers::spacing(grid, k), from, count)
+    let b = station.rows.tables.b;
+    let c = station.rows.tables.c;
+    let r = 1.0 / buffers::spacing(station.rows.path.grid, j);
+    every(
+        station.from,
+        station.count(),
+        |i| is_finite(jerk_value(form, b[i], c[i], r)),
+    )
 }
 
-// Both groups of station k.
-fn jerk_at(
-    grid: &[f64],
-    ends: Ends,
-    jerk_rows: &[u32],
-    jerk_a: &[f64],
-    jerk_b: &[f64],
-    jerk_c: &[f64],
-    jerk_max: &[f64],
-    k: usize,
-    from: usize,
-) -> bool
-    requires { Sized grid.now ends × JerkSized grid.now jerk_rows.now jerk_a.now jerk_b.now jerk_c.now jerk_max.now × (from ≡ total (take k jerk_rows.now)) × (k < length grid.now) × (from + get_or jerk_rows.now k 0 ≤ length jerk_a.now) }
-    ensures { result ≡ finite_bands (jerk_rows_at (path (at_entry grid) ends) (jerk_of (at_entry jerk_rows) (at_entry jerk_a) (at_entry jerk_b) (at_entry jerk_c) (at_entry jerk_max)) k) }
+// The sums of a station's backward group, unless it is the first.
+fn back_at(station: JerkStation) -> bool
+    ensures { result ≡ back_at (path_of station.entry.rows.path) station.entry.rows.tables.b.now station.entry.rows.tables.c.now station.entry.k station.entry.from (get_or station.entry.rows.tables.rows.now station.entry.k 0) }
 {
-    let count = buffers::wide(jerk_rows[k]);
-    let shared = jerk_pairs(jerk_a, jerk_max, from, count);
-    let back = back_at(grid, ends, jerk_b, jerk_c, k, from, count);
-    let ahead = ahead_at(grid, ends, jerk_b, jerk_c, k, from, count);
-    both(shared, both(back, ahead))
+    if station.k <= station.rows.path.ends.n0 {
+        return true;
+    }
+    sums(station, station.k - 1, Form::Here)
+}
+
+// The sums of a station's forward group, unless it is the last.
+#[tactic(auto, unfolding(model::specs::Problem::stop))]
+fn ahead_at(station: JerkStation) -> bool
+    ensures { result ≡ ahead_at (path_of station.entry.rows.path) station.entry.rows.tables.b.now station.entry.rows.tables.c.now station.entry.k station.entry.from (get_or station.entry.rows.tables.rows.now station.entry.k 0) }
+{
+    if station.rows.path.stop() <= station.k {
+        return true;
+    }
+    sums(station, station.k, Form::Ahead)
+}
+
+// Both groups of a station, and what they share.
+fn jerk_at(station: JerkStation) -> bool
+    ensures { result ≡ finite_bands (jerk_rows_at (path_of station.entry.rows.path) (jerk_of station.entry.rows.tables) station.entry.k) }
+{
+    let tables = station.rows.tables;
+    let shared = every(
+        station.from,
+        station.count(),
+        |i| all_finite([tables.a[i], tables.max[i]]),
+    );
+    both(shared, both(back_at(station), ahead_at(station)))
 }
 
 // The jerk rows of all moving stations.
-fn jerk(
-    grid: &[f64],
-    ends: Ends,
-    jerk_rows: &[u32],
-    jerk_a: &[f64],
-    jerk_b: &[f64],
-    jerk_c: &[f64],
-    jerk_max: &[f64],
-) -> bool
-    requires { Sized grid.now ends × JerkSized grid.now jerk_rows.now jerk_a.now jerk_b.now jerk_c.now jerk_max.now }
-    ensures { result ≡ finite_bands (over (jerk_rows_at (path (at_entry grid) ends) (jerk_of (at_entry jerk_rows) (at_entry jerk_a) (at_entry jerk_b) (at_entry jerk_c) (at_entry jerk_max))) ends.n0 (m (path (at_entry grid) ends) + 1)) }
+#[tactic(auto, unfolding(model::specs::Problem::m))]
+fn jerk(rows: JerkRows) -> bool
+    ensures { result ≡ finite_bands (over (jerk_rows_at (path_of rows.entry.path) (jerk_of rows.entry.tables)) rows.entry.path.ends.n0 (m (path_of rows.entry.path) + 1)) }
 {
-    let count = grid.len() - 1 - ends.n0 - ends.n1 + 1;
-    let mut from = acc_jerk::offset(jerk_rows, ends.n0);
+    let first = rows.path.ends.n0;
+    let count = rows.path.moving() + 1;
+    let mut from = acc_jerk::offset(rows.tables.rows, first);
     let mut ok = true;
     for i in 0..count {
-        let k = ends.n0 + i;
-        ok = both(
-            ok,
-            jerk_at(
-                grid, ends, jerk_rows, jerk_a, jerk_b, jerk_c, jerk_max, k, from,
-            ),
-        );
-        from = from + buffers::wide(jerk_rows[k]);
+        let k = first + i;
+        ok = both(ok, jerk_at(JerkStation { rows, k, from }));
+        from = from + rows.tables.rows[k] as usize;
     }
     ok
 }
 
 // The numbers of modules 2 to 4.
-pub fn standard_rows(
-    grid: &[f64],
-    ends: Ends,
-    amax: &[f64],
-    acc_rows: &[u32],
-    acc_a: &[f64],
-    acc_b: &[f64],
-    acc_max: &[f64],
-    jerk_rows: &[u32],
-    jerk_a: &[f64],
-    jerk_b: &[f64],
-    jerk_c: &[f64],
-    jerk_max: &[f64],
-    boundary: Boundary,
-    start: Bounds,
-    end: Bounds,
-) -> bool
-    requires { Sized grid.now ends × (length amax.now ≡ length grid.now) × AccSized grid.now acc_rows.now acc_a.now acc_b.now acc_max.now × JerkSized grid.now jerk_rows.now jerk_a.now jerk_b.now jerk_c.now jerk_max.now }
-    ensures { result ≡ finite_cones (standard_cones (path (at_entry grid) ends) boundary (limits start end (at_entry amax)) (acc_of (at_entry acc_rows) (at_entry acc_a) (at_entry acc_b) (at_entry acc_max)) (jerk_of (at_entry jerk_rows) (at_entry jerk_a) (at_entry jerk_b) (at_entry jerk_c) (at_entry jerk_max))) }
+pub fn standard_rows(input: StandardInput) -> bool
+    ensures { result ≡ finite_cones (cones_of input.entry) }
 {
-    let one = equalities(grid, ends, boundary);
-    let two = first_order(grid, ends, amax, start, end);
-    let three = acceleration(grid, ends, acc_rows, acc_a, acc_b, acc_max);
-    let four = jerk(grid, ends, jerk_rows, jerk_a, jerk_b, jerk_c, jerk_max);
+    let one = equalities(input.path, input.boundary);
+    let two = first_order(input.limits());
+    let three = acceleration(input.acceleration_rows());
+    let four = jerk(input.jerk_rows());
     both(one, both(both(two, three), four))
 }

@@ -9,7 +9,6 @@ use native.Mathlib.Omega.{arith}
 use lib.Ieee.{Float, nan, neg, of_bits}
 use lib.ListN.{length, replicate, take}
 use Rattle.std.proofs.lemmas.List.{take_more}
-use borrow.Author.Rules.{rules}
 use Rattle.model.specs.Numbers.{finite, at, +0}
 use Rattle.model.specs.Lists.{list, over, given, joined}
 use Rattle.model.specs.Program.{Cell, Band, Cone, Block, entry, positive_row, band_entries, entries_from, right_sides}
@@ -160,5 +159,3 @@ pub zeros : (c : ℕ) → all_finite (replicate c +0) ≡ true
 unfolding of_bits
 zeros zero = refl
 zeros (suc c) = zeros c
-
-pub ruleset scanning = (each_none, each_more, each_all, rules)

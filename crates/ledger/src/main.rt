@@ -1,31 +1,24 @@
 // Document 01's ledger: fourteen cases, a line for each, with what sizing answers.
 #![tactic(auto)]
 
-use model::Answer;
+use model::{Answer, FourCounts};
 use std::io;
 
-fn number(rt: &impl Print, k: usize) -> io::Result<()> {
-    print!(rt; " {k}")
-}
-
-fn print_answer(rt: &impl Print, a: Answer) -> io::Result<()> {
-    match a {
-        Answer::Refusal { number: r, place } => {
-            rt.write_all(b" refused")?;
-            number(rt, r)?;
-            number(rt, place)
+fn print_answer(rt: &impl Print, answer: Answer) -> io::Result<()> {
+    match answer {
+        Err(refusal) => {
+            let number = refusal.rule.number();
+            let place = refusal.place;
+            print!(rt; " refused {number} {place}\n")
         }
-        Answer::Counts {
-            entries,
-            rows,
-            cones,
-            columns,
-        } => {
-            number(rt, entries)?;
-            number(rt, rows)?;
-            number(rt, cones)?;
-            number(rt, columns)
-        }
+        Ok(
+            FourCounts {
+                entries,
+                rows,
+                cones,
+                columns,
+            },
+        ) => print!(rt; " {entries} {rows} {cones} {columns}\n"),
     }
 }
 
@@ -34,7 +27,6 @@ fn main(rt: HostRuntime) -> io::Result<()> {
         let letter = [ledger_cases::letter_at(i)];
         rt.write_all(&letter)?;
         print_answer(&rt, ledger_cases::answer_at(i))?;
-        rt.write_all(b"\n")?;
     }
     Ok(())
 }

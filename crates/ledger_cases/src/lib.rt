@@ -6,10 +6,11 @@ ghost use Rattle.model.specs.Numbers.{+1};
 ghost use Rattle.model.specs.declared.Objective.TheVariants.{ThermalEnergy, TotalVariationTorque, Linear};
 ghost use Rattle.model.specs.Answers.{told, sizing};
 ghost use Rattle.model.specs.Ledger.{cases};
-ghost use Rattle.model.specs.Lent.{at_entry};
 ghost use Rattle.ledger_cases.specs.Cases.{problem_of, Small, problem_at, letter_at, usual_case, job_of};
 
-use model::{Answer, Boundary, Bounds, Ends, Job, Objective};
+use model::{
+    Acceleration, Answer, Boundary, Bounds, Ends, Jerk, Job, Objective, Problem, Roots, Torque,
+};
 
 // What a case may change. Its grid and amax are the first `stations` numbers of theirs; its objectives are `count` equal ones; it has `jerk` rows per station.
 #[derive(Clone, Copy)]
@@ -129,22 +130,10 @@ fn job_of(c: Case) -> Job
 }
 
 // The first k numbers of a table.
-fn first(s: &[f64], k: usize) -> &[f64]
-    ensures { result.now ≡ take k (at_entry s) }
+fn first<T>(s: &[T], k: usize) -> &[T]
+    ensures { result.now ≡ take k s.now }
 {
-    if k <= s.len() {
-        return &s[0..k];
-    }
-    s
-}
-
-fn first_counts(s: &[u32], k: usize) -> &[u32]
-    ensures { result.now ≡ take k (at_entry s) }
-{
-    if k <= s.len() {
-        return &s[0..k];
-    }
-    s
+    &s[..k.min(s.len())]
 }
 
 // What sizing answers. Tables that a case does not use are empty or zeros; the pool is a scale of 1 per joint, then alpha and beta.
@@ -155,7 +144,6 @@ fn answer(c: Case) -> Answer
     let n = c.stations;
     let grid = c.grid;
     let amax = c.amax;
-    let objective = c.objective;
     let zeros: [f64; 8] = [0.0; 8];
     let z = &zeros[..];
     let none = first(z, 0);
@@ -164,28 +152,37 @@ fn answer(c: Case) -> Answer
     let no_rows: [u32; 4] = [0; 4];
     let jerk_rows: [u32; 4] = [c.jerk; 4];
     let pool = [1.0, 1.0, 0.0, 0.0, 0.0, 0.0, 0.0, 0.0, 0.0, 0.0];
-    sizing::size(
-        job_of(c),
-        [objective; 16],
-        first(&grid, n),
-        first_counts(&no_rows, n),
-        first_counts(&jerk_rows, n),
-        first(&amax, n),
-        none,
-        none,
-        none,
-        jerk,
-        jerk,
-        jerk,
-        jerk,
-        first(z, n),
-        torque,
-        torque,
-        torque,
-        none,
-        none,
-        first(&pool[2 - c.d..], c.d + 2 * n),
-    )
+    let problem = Problem {
+        job: job_of(c),
+        objectives: [c.objective; 16],
+        grid: first(&grid, n),
+        acceleration: Acceleration {
+            rows: first(&no_rows, n),
+            a: none,
+            b: none,
+            max: none,
+        },
+        jerk: Jerk {
+            rows: first(&jerk_rows, n),
+            a: jerk,
+            b: jerk,
+            c: jerk,
+            max: jerk,
+        },
+        amax: first(&amax, n),
+        thermal: first(z, n),
+        torque: Torque {
+            a: torque,
+            b: torque,
+            g: torque,
+        },
+        roots: Roots {
+            start: none,
+            end: none,
+        },
+        pool: first(&pool[2 - c.d..], c.d + 2 * n),
+    };
+    sizing::size(&problem)
 }
 
 // How many cases there are.

@@ -1,5 +1,6 @@
 -- docs/LISTING.md: the page of an answer.
 use Rattle.std.specs.Prelude.{ℕ, List, ◌++◌, Ok, Err}
+use Rattle.model.specs.Rules.{rule_number}
 use Rattle.model.specs.Lists.{over}
 use Rattle.model.specs.Answers.{Buffers}
 use Rattle.model.specs.Verdicts.{Answer}
@@ -20,7 +21,7 @@ matrix_of b = matrix b.rows b.columns b.values
 
 -- the page of an answer with what the buffers hold after it, for so many stations and these objectives, of which `count` count
 unfoldable pub page_of : ℕ → List Objective → ℕ → Answer → Buffers → List ℕ
-page_of stations slots count (Err e) b = refused e.number e.place
+page_of stations slots count (Err e) b = refused (rule_number e.rule) e.place
 page_of stations slots count (Ok t) b =
     let y = layout stations slots count b.index in
     counts_line t.entries t.rows t.cones t.columns

@@ -55,7 +55,7 @@ pub fn page(
     ensures { says (page_of stations objectives.now count answer (buffers_of buffers.now)) out }
 {
     match answer {
-        Err(refusal) => refusal_words::refused(out, refusal.number, refusal.place),
+        Err(refusal) => refusal_words::refused(out, refusal.rule.number(), refusal.place),
         Ok(counts) => {
             let layout = Layout {
                 stations,

@@ -4,7 +4,9 @@
 ghost use Rattle.std.specs.Prelude.{◌≡◌, ◌≤◌, length, take};
 ghost use Rattle.show.specs.Shown.{Shown};
 
+use model::Buffers;
 use std::io;
+use text::Writer;
 
 // Assembles problem number i and writes its page at the start of `out`.
 fn page_at(i: usize, out: &mut [u8]) -> usize
@@ -20,36 +22,23 @@ fn page_at(i: usize, out: &mut [u8]) -> usize
     let mut dimensions = [0u32; 32];
     let mut cost = [0.0; 32];
     let mut index = [0usize; 64];
-    let answer = shown_problems::assemble(
-        i,
-        &mut rows,
-        &mut columns,
-        &mut values,
-        &mut right,
-        &mut kinds,
-        &mut dimensions,
-        &mut cost,
-        &mut index,
-    );
+    let mut buffers = Buffers {
+        rows: &mut rows,
+        columns: &mut columns,
+        values: &mut values,
+        right: &mut right,
+        kinds: &mut kinds,
+        dimensions: &mut dimensions,
+        cost: &mut cost,
+        index: &mut index,
+    };
+    let answer = shown_problems::assemble(i, &mut buffers);
     let stations = shown_problems::stations_at(i);
     let objectives = shown_problems::objectives_at(i);
     let count = shown_problems::objective_count_at(i);
-    listing::page(
-        out,
-        0,
-        answer,
-        stations,
-        objectives,
-        count,
-        &rows,
-        &columns,
-        &values,
-        &right,
-        &kinds,
-        &dimensions,
-        &cost,
-        &index,
-    )
+    let mut page = Writer { buffer: out, at: 0 };
+    listing::page(&mut page, answer, stations, &objectives, count, &buffers);
+    page.at
 }
 
 // A line that tells the problem, and its page.

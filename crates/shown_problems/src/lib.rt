@@ -3,10 +3,12 @@
 
 ghost use Rattle.std.specs.Prelude.{◌≡◌};
 ghost use Rattle.model.specs.Answers.{answered, assembly};
-ghost use Rattle.model.specs.Lent.{buffers_before, buffers_after};
+ghost use Rattle.model.specs.Lent.{buffers_of, SameBuffers};
 ghost use Rattle.shown_problems.specs.Problems.{small, three_stations, problem_at, stations_at, count_at, objectives_at, job_with};
 
-use model::{Answer, Boundary, Bounds, Ends, Job, Objective};
+use model::{
+    Acceleration, Answer, Boundary, Bounds, Buffers, Ends, Jerk, Job, Objective, Problem, Roots, Torque,
+};
 
 // How many stations problem number i has.
 pub fn stations_at(i: usize) -> usize
@@ -78,18 +80,9 @@ fn job_with(maximum: f64, stationary: usize, count: usize) -> Job
 }
 
 // Cases A and L: the grid is 0, 1 and `last`, amax plus infinity, the pool one scale of 1 and zeros, tables zeros or empty.
-fn three_stations(
-    last: f64,
-    rows: &mut [u32],
-    columns: &mut [u32],
-    values: &mut [f64],
-    right: &mut [f64],
-    kinds: &mut [u8],
-    dimensions: &mut [u32],
-    cost: &mut [f64],
-    index: &mut [usize],
-) -> Answer
-    ensures { answered result (buffers_after rows columns values right kinds dimensions cost index) ≡ assembly (three_stations last) (buffers_before rows columns values right kinds dimensions cost index) }
+fn three_stations(last: f64, out: &mut Buffers) -> Answer
+    ensures same { SameBuffers out.old out.new }
+    ensures answer { answered result (buffers_of out.new) ≡ assembly (three_stations last) (buffers_of out.old) }
 {
     let infinity = 1.0 / 0.0;
     let grid = [0.0, 1.0, last];
@@ -102,62 +95,48 @@ fn three_stations(
     let no_rows = &counts[..];
     let zero = &zeros[..];
     let none = &empty[..];
-    assembly::assemble(
-        job_with(infinity, 0, objective_count_at(0)),
-        objectives_at(0),
-        &grid,
-        no_rows,
-        no_rows,
-        &amax,
-        none,
-        none,
-        none,
-        none,
-        none,
-        none,
-        none,
-        zero,
-        zero,
-        zero,
-        zero,
-        none,
-        none,
-        &pool,
-        rows,
-        columns,
-        values,
-        right,
-        kinds,
-        dimensions,
-        cost,
-        index,
-    )
+    let problem = Problem {
+        job: job_with(infinity, 0, objective_count_at(0)),
+        objectives: objectives_at(0),
+        grid: &grid,
+        acceleration: Acceleration {
+            rows: no_rows,
+            a: none,
+            b: none,
+            max: none,
+        },
+        jerk: Jerk {
+            rows: no_rows,
+            a: none,
+            b: none,
+            c: none,
+            max: none,
+        },
+        amax: &amax,
+        thermal: zero,
+        torque: Torque {
+            a: zero,
+            b: zero,
+            g: zero,
+        },
+        roots: Roots {
+            start: none,
+            end: none,
+        },
+        pool: &pool,
+    };
+    assembly::assemble(&problem, out)
 }
 
 // The problem with all four objectives. Its acceleration row and its jerk row are at station 2, so that each of their tables has one number.
-fn small(
-    rows: &mut [u32],
-    columns: &mut [u32],
-    values: &mut [f64],
-    right: &mut [f64],
-    kinds: &mut [u8],
-    dimensions: &mut [u32],
-    cost: &mut [f64],
-    index: &mut [usize],
-) -> Answer
-    ensures { answered result (buffers_after rows columns values right kinds dimensions cost index) ≡ assembly small (buffers_before rows columns values right kinds dimensions cost index) }
+fn small(out: &mut Buffers) -> Answer
+    ensures same { SameBuffers out.old out.new }
+    ensures answer { answered result (buffers_of out.new) ≡ assembly small (buffers_of out.old) }
 {
     let infinity = 1.0 / 0.0;
     let grid = [0.0, 1.0, 2.5, 4.0, 5.0];
     let counts: [u32; 5] = [0, 0, 1, 0, 0];
     let amax = [infinity, infinity, 4.0, infinity, infinity];
-    let acc_a = [0.25];
-    let acc_b = [1.0];
-    let acc_max = [3.0];
-    let jerk_a = [0.5];
-    let jerk_b = [0.25];
-    let jerk_c = [1.0];
-    let jerk_max = [10.0];
     let thermal = [0.5, 1.0, 1.0, 1.0, 0.5];
     let torque_a = [1.0, 1.0, 2.0, 1.0, 1.0];
     let torque_b = [0.5; 5];
@@ -167,57 +146,47 @@ fn small(
     // Slices, since an array is lent once and each of these is two tables.
     let one_row = &counts[..];
     let none = &empty[..];
-    assembly::assemble(
-        job_with(4.0, 1, objective_count_at(1)),
-        objectives_at(1),
-        &grid,
-        one_row,
-        one_row,
-        &amax,
-        &acc_a,
-        &acc_b,
-        &acc_max,
-        &jerk_a,
-        &jerk_b,
-        &jerk_c,
-        &jerk_max,
-        &thermal,
-        &torque_a,
-        &torque_b,
-        &torque_g,
-        none,
-        none,
-        &pool,
-        rows,
-        columns,
-        values,
-        right,
-        kinds,
-        dimensions,
-        cost,
-        index,
-    )
+    let problem = Problem {
+        job: job_with(4.0, 1, objective_count_at(1)),
+        objectives: objectives_at(1),
+        grid: &grid,
+        acceleration: Acceleration {
+            rows: one_row,
+            a: &[0.25],
+            b: &[1.0],
+            max: &[3.0],
+        },
+        jerk: Jerk {
+            rows: one_row,
+            a: &[0.5],
+            b: &[0.25],
+            c: &[1.0],
+            max: &[10.0],
+        },
+        amax: &amax,
+        thermal: &thermal,
+        torque: Torque {
+            a: &torque_a,
+            b: &torque_b,
+            g: &torque_g,
+        },
+        roots: Roots {
+            start: none,
+            end: none,
+        },
+        pool: &pool,
+    };
+    assembly::assemble(&problem, out)
 }
 
 // The assembly of problem number i.
-pub fn assemble(
-    i: usize,
-    rows: &mut [u32],
-    columns: &mut [u32],
-    values: &mut [f64],
-    right: &mut [f64],
-    kinds: &mut [u8],
-    dimensions: &mut [u32],
-    cost: &mut [f64],
-    index: &mut [usize],
-) -> Answer
-    ensures { answered result (buffers_after rows columns values right kinds dimensions cost index) ≡ assembly (problem_at i) (buffers_before rows columns values right kinds dimensions cost index) }
+pub fn assemble(i: usize, out: &mut Buffers) -> Answer
+    ensures same { SameBuffers out.old out.new }
+    ensures answer { answered result (buffers_of out.new) ≡ assembly (problem_at i) (buffers_of out.old) }
 {
-    if i == 1 {
-        return small(rows, columns, values, right, kinds, dimensions, cost, index);
+    match i {
+        0 => three_stations(2.0, out),
+        1 => small(out),
+        _ => three_stations(1.0, out),
     }
-    let last = if i == 0 { 2.0 } else { 1.0 };
-    three_stations(
-        last, rows, columns, values, right, kinds, dimensions, cost, index,
-    )
 }

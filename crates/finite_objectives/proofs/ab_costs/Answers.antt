@@ -1,19 +1,22 @@
-use Prim.Native.Nat.{◌+◌, ◌-◌, ◌*◌}
-use native.Mathlib.Omega.{arith}
-use lib.ListN.{length}
-use Rattle.linear.proofs.Gathering.{all_long, gathers_fit, gathers_cost, gathers_zero}
+use Rattle.std.proofs.Common.{arith, rules, tests, ◌∙◌, sym, ap}
+use mathlib.Core.List.{List}
+use Rattle.model.specs.Numbers.{finite, +0}
+use Rattle.model.specs.Problem.{is_linear}
+use Rattle.model.specs.Program.{Cell}
+use Rattle.linear.specs.Charges.{charged_at}
+use Rattle.linear.specs.Parts.{cost_in}
+use Rattle.linear.proofs.Objectives.{none_charged}
 use Rattle.finite_objectives.proofs.Costs.{ab_zero, ab_scanned}
 use Rattle.finite_objectives.proofs.ab_costs.Goals as goal
 
-pub returns-then-k-eq0 : goal.returns-then-k-eq0
-returns-then-k-eq0 c = let a = c.args in let g = c.gather_all-g.ensures.1 (length a.grid.now) (all_long a.grid.now a.ends a.start_roots.now a.end_roots.now a.pool.now a.objectives c.requires.2) in ab_zero 0 (2 * (length a.grid.now - 1 + 1)) (gathers_zero a.grid.now a.ends a.start_roots.now a.end_roots.now a.pool.now g c.if-k-eq0.true)
-
-pub charged_costs-requires : goal.charged_costs-requires
-charged_costs-requires c =
-    let a = c.args in let g = c.gather_all-g.ensures.1 (length a.grid.now) (all_long a.grid.now a.ends a.start_roots.now a.end_roots.now a.pool.now a.objectives c.requires.2) in
-    (c.requires.0, omega (arith, c.requires.1, c.gather_all-g.ensures.0), gathers_fit a.grid.now a.ends a.start_roots.now a.end_roots.now a.pool.now a.objectives g c.requires.2)
+pub returns-then-any_is : goal.returns-then-any_is
+returns-then-any_is c =
+    let cost = cost_in c.args.input.now c.args.objectives.now in
+    ab_scanned cost (c.every.ensures (λ k. finite (cost k)) (λ k b h l p. search rules)) (omega arith)
 
 pub returns : goal.returns
 returns c =
-    let a = c.args in let g = c.gather_all-g.ensures.1 (length a.grid.now) (all_long a.grid.now a.ends a.start_roots.now a.end_roots.now a.pool.now a.objectives c.requires.2) in
-    ab_scanned {d = 2 * (length a.grid.now - 1 + 1)} c.charged_costs.ensures (gathers_cost a.grid.now a.ends a.start_roots.now a.end_roots.now a.pool.now g) (omega (arith, c.requires.0))
+    let a = c.args.input.now in
+    let none = none_charged a.path.grid.now a.path.ends a.roots.start.now a.roots.end.now a.pool.now c.args.objectives.now
+    (sym (c.any_is.ensures is_linear (λ o b p. search (rules, tests))) ∙ c.if-any_is.false) in
+    ab_zero 0 _ (λ j. ap (λ (l : List Cell). charged_at +0 j l) (sym none))

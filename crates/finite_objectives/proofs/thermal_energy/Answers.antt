@@ -1,9 +1,17 @@
-use Rattle.model.specs.Problem.{stop}
-use Rattle.buffers.specs.Inputs.{path, torque_of}
+use Rattle.std.proofs.Common.{rules, ◌∙◌}
+use Rattle.model.specs.Problem.{skip}
+use Rattle.buffers.specs.Paths.{path_of}
+use Rattle.torque.specs.Tables.{tables_of}
+use Rattle.finite_objectives.specs.Tests.{thermal_at}
 use Rattle.finite_objectives.proofs.Torque.{thermal_scanned}
-use mathlib.Core.Path.{◌∙◌}
 use Rattle.finite_objectives.proofs.thermal_energy.Goals as goal
 
 pub returns : goal.returns
-unfolding stop
-returns c = λ k. let a = c.args in let q = path a.grid.now a.ends in rw (← c.both.ensures) c.both-2.ensures ∙ thermal_scanned q (torque_of a.d a.torque_a.now a.torque_b.now a.torque_g.now) a.thermal.now a.weight a.scales.now k c.thermal_end-first.ensures c.thermal_end-second.ensures c.thermal_moving.ensures
+unfolding skip
+returns c = λ k.
+    let x = c.args.torque in
+    let ws = c.args.thermal.now in
+    let w = c.args.weight in
+    let end = rw (c.stop.ensures, c.last.ensures) at c.thermal_end-end.ensures in
+    let moving = rw (c.max.ensures, c.length_xi.ensures) at c.every-moving.ensures (thermal_at (tables_of x) x.scales.now ws w) (λ j b h l p. search rules) in
+    rw (← c.both.ensures) c.both-2.ensures ∙ thermal_scanned (path_of x.path) (tables_of x) ws w x.scales.now k c.thermal_end-start.ensures end moving

@@ -1,12 +1,16 @@
-use native.Mathlib.Omega.{arith}
-use Rattle.model.specs.Problem.{stop}
-use Rattle.buffers.specs.Inputs.{path, torque_of}
+use Rattle.std.proofs.Common.{arith, rules, ◌∙◌}
+use Rattle.buffers.specs.Paths.{path_of}
+use Rattle.torque.specs.Tables.{tables_of}
+use Rattle.finiteness.specs.Finite.{each}
+use Rattle.finite_objectives.specs.Tests.{step_test}
 use Rattle.finite_objectives.proofs.Torque.{torque_scanned, own_columns}
-use mathlib.Core.Path.{◌∙◌}
 use Rattle.finite_objectives.proofs.total_variation_torque.Goals as goal
 
 pub returns : goal.returns
-unfolding stop
-returns c =
-    λ k. let a = c.args in let q = path a.grid.now a.ends in rw (← c.both.ensures, ← c.both-2.ensures) c.both-3.ensures ∙ torque_scanned q (torque_of a.d a.torque_a.now a.torque_b.now a.torque_g.now)
-    a.scales.now a.weight k (own_columns q a.d (omega (arith, c.requires)) (omega (arith, c.requires))) c.end_joints-first.ensures c.end_joints-second.ensures c.steps-rest.ensures c.is_finite.ensures
+returns c = λ k.
+    let x = c.args.torque in
+    let q = path_of x.path in
+    let end = rw (c.stop.ensures, c.last.ensures) at c.end_joints-end.ensures in
+    let steps = rw c.moving.ensures at c.every-steps.ensures (λ j. each (step_test (tables_of x) x.scales.now j) 0 x.d) (λ j b h l p. search rules) in
+    rw (← c.both.ensures, ← c.both-2.ensures) c.both-3.ensures
+    ∙ torque_scanned q (tables_of x) x.scales.now c.args.weight k (own_columns q x.d (omega (arith, x.given)) (omega (arith, x.given))) c.end_joints-start.ensures end steps c.is_finite.ensures

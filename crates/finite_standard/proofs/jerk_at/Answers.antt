@@ -1,10 +1,14 @@
-use native.Mathlib.Omega.{arith}
-use Rattle.buffers.specs.Inputs.{path}
+use Rattle.std.proofs.Common.{rules, arith}
+use Rattle.buffers.specs.Paths.{path_of}
 use Rattle.acc_jerk.specs.Tables.{jerk_of}
+use Rattle.finite_standard.specs.Tests.{pair_test}
 use Rattle.finite_standard.proofs.AccJerk.{jerk_scanned, moving_stop}
 use Rattle.finite_standard.proofs.jerk_at.Goals as goal
 
 pub returns : goal.returns
 returns c =
-    let a = c.args in let q = path a.grid.now a.ends in jerk_scanned q (jerk_of a.jerk_rows.now a.jerk_a.now a.jerk_b.now a.jerk_c.now a.jerk_max.now) a.k (moving_stop q (omega (arith, c.requires.0)))
-    c.requires.2 c.wide-count.ensures c.jerk_pairs-shared.ensures c.back_at-back.ensures c.ahead_at-ahead.ensures (rw (← c.both.ensures) c.both-2.ensures)
+    let s = c.args.station in
+    let path = path_of s.rows.path in
+    let shared = c.every-shared.ensures (pair_test s.rows.tables.a.now s.rows.tables.max.now) (λ k b lo hi e. search rules) in
+    jerk_scanned path (jerk_of s.rows.tables) s.k (moving_stop path (omega (arith, s.rows.path.sized))) s.placed.0 (rw c.count.ensures at shared) c.back_at.ensures c.ahead_at.ensures
+    (rw (← c.both.ensures) c.both-2.ensures)

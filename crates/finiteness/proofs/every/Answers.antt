@@ -1,9 +1,6 @@
 use Rattle.std.proofs.Common.{arith, rules}
-use Rattle.finiteness.proofs.Laws.{each_none, each_more, each_all}
+use Rattle.finiteness.proofs.Laws.{each_more, each_all}
 use Rattle.finiteness.proofs.every.Goals as goal
-
-pub loop-i-init : goal.loop-i-init
-loop-i-init g c = (omega arith, λ f h. each_none)
 
 pub loop-i-preserved : goal.loop-i-preserved
 loop-i-preserved g c = (omega arith, λ f h. each_more (c.loop-i.invariant.1 f h) (h _ _ (omega arith) (search rules) c.test.ensures) c.both-ok.ensures)

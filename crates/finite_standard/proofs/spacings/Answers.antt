@@ -1,8 +1,0 @@
-use native.Mathlib.Omega.{arith}
-use Rattle.finiteness.proofs.Laws.{each_more}
-use Rattle.model.specs.Numbers.{finite}
-use mathlib.Core.Path.{◌∙◌, ap}
-use Rattle.finite_standard.proofs.spacings.Goals as goal
-
-pub loop-i-preserved : goal.loop-i-preserved
-loop-i-preserved c = (omega (arith, c.loop-i-test), each_more c.loop-i.invariant.1 (c.is_finite.ensures ∙ ap finite c.spacing.ensures) c.both-ok.ensures)
