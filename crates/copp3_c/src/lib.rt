@@ -91,7 +91,7 @@ fn objectives_of(items: &[ObjectiveRecord; 16]) -> [Objective; 16]
 }
 
 // Refuses the first record that counts and has an unknown kind.
-#[tactic(auto, using(crate::proofs::KindCheck::none_yet, crate::proofs::KindCheck::unknown_refused, crate::proofs::KindCheck::known_next, crate::proofs::KindCheck::all_known))]
+#[tactic(auto, using(crate::proofs::KindCheck::none_yet, crate::proofs::KindCheck::known_next, crate::proofs::KindCheck::all_known))]
 fn kind_check(items: &[ObjectiveRecord; 16], count: usize) -> Verdict
     ensures { result ≡ kind_refusal count items.now }
 {
@@ -105,7 +105,7 @@ fn kind_check(items: &[ObjectiveRecord; 16], count: usize) -> Verdict
 impl From<Answer> for AnswerRecord {
     ghost from_gives = { λ a r. r ≡ answer_record (told a) };
 
-    #[tactic(auto, using(crate::proofs::Answered::refused_told), unfolding(crate::specs::Exported::answer_record))]
+    #[tactic(auto, using(model::proofs::Rules::rule_positive), unfolding(crate::specs::Exported::answer_record))]
     fn from(answer: Answer) -> AnswerRecord {
         match answer {
             Ok(counts) => AnswerRecord {
@@ -149,7 +149,7 @@ fn owner_record(answer: OwnerAnswer) -> OwnerRecord
 }
 
 // Sizing of a problem whose objectives the records stand for: their kinds are judged first.
-#[tactic(auto, using(crate::proofs::Answered::size_refused, crate::proofs::Answered::size_passed))]
+#[tactic(auto, unfolding(crate::specs::Exported::sizing_after))]
 fn size(items: &[ObjectiveRecord; 16], problem: &Problem) -> Answer
     ensures { told result ≡ sizing_after (kind_refusal problem.now.job.count items.now) (problem_of problem.now) }
 {
@@ -158,7 +158,7 @@ fn size(items: &[ObjectiveRecord; 16], problem: &Problem) -> Answer
 }
 
 // The assembly, in the same order.
-#[tactic(auto, using(crate::proofs::Answered::assembly_refused, crate::proofs::Answered::assembly_passed))]
+#[tactic(auto, unfolding(crate::specs::Exported::assembly_after))]
 fn assemble(items: &[ObjectiveRecord; 16], problem: &Problem, out: &mut Buffers) -> Answer
     ensures same { SameBuffers out.old out.new }
     ensures answer { answered result (buffers_of out.new) ≡ assembly_after (kind_refusal problem.now.job.count items.now) (problem_of problem.now) (buffers_of out.old) }
