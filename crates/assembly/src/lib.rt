@@ -14,6 +14,7 @@ use model::{Answer, Buffers, FourCounts, Problem, Rule, Verdict};
 use passes::{every_number, write};
 
 // 19, then 28 for an index so long, then 20, of the four counts, the number of objectives and of whether every number is finite.
+#[tactic(auto, using(checks::proofs::Chain::then_ok, checks::proofs::Chain::then_err))]
 fn room_and_finite(
     counts: FourCounts,
     objectives: usize,

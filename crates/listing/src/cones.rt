@@ -13,9 +13,9 @@ use text::Writer;
 impl Assembled<'_> {
     // The word of cone j's kind. The byte is document 01's number of the kind: a ConeKind made of it would be matched once more.
     fn kind_word(&self, j: usize) -> &'static [u8]
-        ensures { result.now ≡ kind_word (get_or self.now.kinds.now j 3) }
+        ensures { result.now ≡ kind_word (get_or self.now.contents.kinds.now j 3) }
     {
-        match self.kinds.get(j) {
+        match self.contents.kinds.get(j) {
             Some(0) => b"zero",
             Some(1) => b"nonnegative",
             Some(2) => b"second-order",
@@ -25,14 +25,14 @@ impl Assembled<'_> {
 
     // The line of cone j, whose first row is `first`.
     fn cone_head(&self, out: &mut Writer, j: usize, first: Row)
-        ensures { says (cone_head (layout_in self.now) self.now.kinds.now self.now.dimensions.now j first.at) out }
+        ensures { says (cone_head (layout_in self.now) self.now.contents.kinds.now self.now.contents.dimensions.now j first.at) out }
     {
         out.words(b"cone ");
         out.decimal(j as u64);
         out.words(b": ");
         out.words(self.kind_word(j));
         out.words(b", dimension ");
-        out.decimal(number_at(self.dimensions, j) as u64);
+        out.decimal(number_at(self.contents.dimensions, j) as u64);
         out.words(b", ");
         self.layout.row_owner(out, first);
         out.words(b"\n");
@@ -42,7 +42,7 @@ impl Assembled<'_> {
     #[tactic(auto, using(crate::proofs::Laws::written_turn, text::proofs::Laws::written_nothing))]
     fn cone_rows(&self, out: &mut Writer, first: Row, end: Row)
         requires { first.at ≤ end.at }
-        ensures { says (over (row (layout_in self.now) (matrix_in self.now) self.now.counts.entries self.now.right.now) first.at (end.at - first.at)) out }
+        ensures { says (over (row (layout_in self.now) (matrix_in self.now) self.now.counts.entries self.now.contents.right.now) first.at (end.at - first.at)) out }
     {
         for r in first.at..end.at {
             self.row(out, Row { at: r });
@@ -50,12 +50,12 @@ impl Assembled<'_> {
     }
 
     // All cones. Where a dimension leads past the last row, the cone ends there.
-    pub fn cones(&self, out: &mut Writer)
-        ensures { says (over (cone (layout_in self.now) (matrix_in self.now) self.now.counts.entries self.now.right.now self.now.counts.rows self.now.kinds.now self.now.dimensions.now) 0 self.now.counts.cones) out }
+    pub(crate) fn cones(&self, out: &mut Writer)
+        ensures { says (over (cone (layout_in self.now) (matrix_in self.now) self.now.counts.entries self.now.contents.right.now self.now.counts.rows self.now.contents.kinds.now self.now.contents.dimensions.now) 0 self.now.counts.cones) out }
     {
         let mut first = Row { at: 0 };
         for j in 0..self.counts.cones {
-            let dimension = number_at(self.dimensions, j);
+            let dimension = number_at(self.contents.dimensions, j);
             let end = Row {
                 at: first.at.saturating_add(dimension).min(self.counts.rows),
             };

@@ -2,30 +2,26 @@
 #![tactic(auto)]
 
 mod cones;
+mod contents;
 mod pattern;
 mod rows;
 
 ghost use Rattle.std.specs.Prelude.{◌≡◌};
-ghost use Rattle.model.specs.Lent.{buffers_of};
 ghost use Rattle.text.specs.Text.{says};
+ghost use Rattle.listing.specs.Listed.{contents_of};
 ghost use Rattle.listing.specs.Page.{counts_line, page_of};
 
 use column_names::Layout;
-use model::{Answer, Buffers, FourCounts, Objective};
+pub use contents::Contents;
+use model::{Answer, FourCounts, Objective};
 use text::Writer;
 
-// An accepted problem: what its names and owners go by, its four counts, and what buffers 0 to 6 hold.
+// An accepted problem: what its names and owners go by, its four counts, and what the buffers hold.
 #[derive(Clone, Copy)]
-pub struct Assembled<'a> {
-    pub layout: Layout<'a>,
-    pub counts: FourCounts,
-    pub rows: &'a [u32],
-    pub columns: &'a [u32],
-    pub values: &'a [f64],
-    pub right: &'a [f64],
-    pub kinds: &'a [u8],
-    pub dimensions: &'a [u32],
-    pub cost: &'a [f64],
+struct Assembled<'a> {
+    layout: Layout<'a>,
+    counts: FourCounts,
+    contents: Contents<'a>,
 }
 
 fn counts_line(out: &mut Writer, counts: FourCounts)
@@ -50,9 +46,9 @@ pub fn page(
     stations: usize,
     objectives: &[Objective],
     count: usize,
-    buffers: &Buffers,
+    contents: &Contents,
 )
-    ensures { says (page_of stations objectives.now count answer (buffers_of buffers.now)) out }
+    ensures { says (page_of stations objectives.now count answer (contents_of contents.now)) out }
 {
     match answer {
         Err(refusal) => refusal_words::refused(out, refusal.rule.number(), refusal.place),
@@ -61,18 +57,12 @@ pub fn page(
                 stations,
                 objectives,
                 count,
-                index: buffers.index,
+                index: contents.index,
             };
             let assembled = Assembled {
                 layout,
                 counts,
-                rows: buffers.rows,
-                columns: buffers.columns,
-                values: buffers.values,
-                right: buffers.right,
-                kinds: buffers.kinds,
-                dimensions: buffers.dimensions,
-                cost: buffers.cost,
+                contents: *contents,
             };
             counts_line(out, counts);
             assembled.cones(out);

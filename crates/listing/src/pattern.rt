@@ -8,7 +8,7 @@ ghost use Rattle.listing.specs.Listed.{layout_in, matrix_in};
 ghost use Rattle.listing.specs.Pattern.{sign_mark, mark_from, picture_row, picture};
 
 use crate::Assembled;
-use crate::rows::{float_at, number_at};
+use crate::rows::float_at;
 use model::{Column, Row};
 use text::Writer;
 
@@ -27,14 +27,14 @@ fn sign_mark(x: f64) -> u8
 impl Assembled<'_> {
     // Whether entry i stands at a row and a column.
     fn stands_at(&self, i: usize, row: Row, column: Column) -> bool
-        ensures { result ≡ (nat_eq (get_or self.now.rows.now i 0) row.at && nat_eq (get_or self.now.columns.now i 0) column.at) }
+        ensures { result ≡ (nat_eq (get_or self.now.contents.rows.now i 0) row.at && nat_eq (get_or self.now.contents.columns.now i 0) column.at) }
     {
-        number_at(self.rows, i) == row.at && number_at(self.columns, i) == column.at
+        self.row_at(i).at == row.at && self.column_at(i).at == column.at
     }
 
     // The first entry at a row and a column.
     fn first_at(&self, row: Row, column: Column) -> Option<usize>
-        ensures { result ≡ find (λ i. nat_eq (get_or self.now.rows.now i 0) row.at && nat_eq (get_or self.now.columns.now i 0) column.at) (range_with_len 0 self.now.counts.entries) }
+        ensures { result ≡ find (λ i. nat_eq (get_or self.now.contents.rows.now i 0) row.at && nat_eq (get_or self.now.contents.columns.now i 0) column.at) (range_with_len 0 self.now.counts.entries) }
     {
         (0..self.counts.entries).find(|i| self.stands_at(*i, row, column))
     }
@@ -45,7 +45,7 @@ impl Assembled<'_> {
         ensures { result ≡ mark_from (matrix_in self.now) row.at column.at 0 self.now.counts.entries }
     {
         match self.first_at(row, column) {
-            Some(i) => sign_mark(float_at(self.values, i)),
+            Some(i) => sign_mark(float_at(self.contents.values, i)),
             None => b'.',
         }
     }
@@ -88,7 +88,7 @@ impl Assembled<'_> {
     }
 
     // The whole picture: the first letters of the columns' words, and a line for each row.
-    pub fn picture(&self, out: &mut Writer)
+    pub(crate) fn picture(&self, out: &mut Writer)
         ensures { says (picture (layout_in self.now) (matrix_in self.now) self.now.counts.entries self.now.counts.rows self.now.counts.columns) out }
     {
         out.words(b"pattern:\n  ");

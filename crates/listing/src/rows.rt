@@ -10,13 +10,13 @@ use crate::Assembled;
 use model::{Column, Row};
 use text::Writer;
 
-pub fn number_at(xs: &[u32], i: usize) -> usize
+pub(crate) fn number_at(xs: &[u32], i: usize) -> usize
     ensures { result ≡ get_or xs.now i 0 }
 {
     xs.get(i).copied().unwrap_or(0) as usize
 }
 
-pub fn float_at(xs: &[f64], i: usize) -> f64
+pub(crate) fn float_at(xs: &[f64], i: usize) -> f64
     ensures { result ≡ at xs.now i }
 {
     xs.get(i).copied().unwrap_or(f64::NAN)
@@ -32,6 +32,23 @@ fn plus(out: &mut Writer, x: f64)
 }
 
 impl Assembled<'_> {
+    // Of entry i: its row and its column.
+    pub(crate) fn row_at(&self, i: usize) -> Row
+        ensures { result.at ≡ get_or self.now.contents.rows.now i 0 }
+    {
+        Row {
+            at: number_at(self.contents.rows, i),
+        }
+    }
+
+    pub(crate) fn column_at(&self, i: usize) -> Column
+        ensures { result.at ≡ get_or self.now.contents.columns.now i 0 }
+    {
+        Column {
+            at: number_at(self.contents.columns, i),
+        }
+    }
+
     // x times a column.
     fn term(&self, out: &mut Writer, x: f64, column: Column)
         ensures { says (term (layout_in self.now) x column.at) out }
@@ -48,12 +65,9 @@ impl Assembled<'_> {
     fn entry(&self, out: &mut Writer, row: Row, i: usize)
         ensures { says (entry (layout_in self.now) (matrix_in self.now) row.at i) out }
     {
-        if number_at(self.rows, i) == row.at {
-            let x = float_at(self.values, i);
-            let column = Column {
-                at: number_at(self.columns, i),
-            };
-            self.term(out, x, column);
+        if self.row_at(i).at == row.at {
+            let x = float_at(self.contents.values, i);
+            self.term(out, x, self.column_at(i));
         }
     }
 
@@ -67,24 +81,24 @@ impl Assembled<'_> {
         }
     }
 
-    pub fn row(&self, out: &mut Writer, row: Row)
-        ensures { says (row_line (layout_in self.now) (matrix_in self.now) self.now.counts.entries self.now.right.now row.at) out }
+    pub(crate) fn row(&self, out: &mut Writer, row: Row)
+        ensures { says (row_line (layout_in self.now) (matrix_in self.now) self.now.counts.entries self.now.contents.right.now row.at) out }
     {
         out.words(b"  ");
         out.decimal(row.at as u64);
         out.words(b":");
         self.terms(out, row);
         out.words(b" + s = ");
-        out.number(float_at(self.right, row.at));
+        out.number(float_at(self.contents.right, row.at));
         out.words(b"\n");
     }
 
     // The term of a column in the cost, if it is not zero.
     #[tactic(auto, using(text::proofs::Laws::written_nothing), unfolding(crate::specs::Rows::charge))]
     fn charge(&self, out: &mut Writer, column: Column)
-        ensures { says (charge (layout_in self.now) self.now.cost.now column.at) out }
+        ensures { says (charge (layout_in self.now) self.now.contents.cost.now column.at) out }
     {
-        let x = float_at(self.cost, column.at);
+        let x = float_at(self.contents.cost, column.at);
         if x == 0.0 {
             return;
         }
@@ -93,15 +107,15 @@ impl Assembled<'_> {
 
     #[tactic(auto, using(crate::proofs::Laws::written_next, text::proofs::Laws::written_nothing))]
     fn charges(&self, out: &mut Writer)
-        ensures { says (over (charge (layout_in self.now) self.now.cost.now) 0 self.now.counts.columns) out }
+        ensures { says (over (charge (layout_in self.now) self.now.contents.cost.now) 0 self.now.counts.columns) out }
     {
         for k in 0..self.counts.columns {
             self.charge(out, Column { at: k });
         }
     }
 
-    pub fn cost_line(&self, out: &mut Writer)
-        ensures { says (cost_line (layout_in self.now) self.now.cost.now self.now.counts.columns) out }
+    pub(crate) fn cost_line(&self, out: &mut Writer)
+        ensures { says (cost_line (layout_in self.now) self.now.contents.cost.now self.now.counts.columns) out }
     {
         out.words(b"cost:");
         self.charges(out);

@@ -1,5 +1,5 @@
 -- What the program's block leaves from the start: the model's lists in the buffers, its lengths in the tally. Assumes nothing.
-use mathlib.Core.Path.{◌≡◌, sym, ap, ◌∙◌}
+use mathlib.Core.Path.{◌≡◌, refl, sym, ap, ◌∙◌}
 use mathlib.Core.Bool.{Bool, not}
 use mathlib.Core.List.{List, ◌++◌}
 use Prim.Native.Nat.{ℕ, ◌+◌, ◌≤◌}
@@ -17,10 +17,10 @@ use Rattle.model.specs.Refusals.{refusal}
 use Rattle.model.specs.Answers.{Buffers, buffers, told, answered, outcome, lengths, room_refusal, index_refusal, every_finite, finite_refusal, verdict_of, written, assembly}
 use Rattle.model.specs.Answers as answers
 use Rattle.model.specs.Owners.{index, index_places}
-use Rattle.std.specs.Prelude.{Ok}
-use Rattle.model.specs.declared.rule.Rule.{Rule}
+use Rattle.std.specs.Prelude.{Ok, Err}
 use Rattle.model.specs.declared.rule.Rule.TheVariants.{NumberNotFinite, IndexTooShort}
-use Rattle.model.specs.Verdicts.{Verdict}
+use Rattle.model.specs.Verdicts.{Verdict, Answer}
+use Rattle.model.specs.declared.Refusal.{Refusal}
 use Rattle.model.specs.Verdicts as verdicts
 use Rattle.model.specs.Counts.{four_counts}
 use Rattle.model.specs.declared.FourCounts.{FourCounts}
@@ -75,10 +75,6 @@ module _ (p : Problem) {R C : List ℕ} {W H : List Float} {K D : List ℕ} {Q :
 -- ---- the answers
 
 module _ (p : Problem) (have : List ℕ) (long : ℕ) {v : Verdict} (e : v ≡ refusal p) where
-  pub stopped : {r : Rule} {k : ℕ} → v ≡ verdicts.refused r k → v ≡ verdict_of p have long
-  unfolding ◌then◌
-  stopped f = rw (sym e ∙ f) f
-
   pub passed : {t : FourCounts} {count : ℕ} {ok : Bool} {u : Verdict} → v ≡ verdicts.accepted → t ≡ counts p → count ≡ length (objectives p) → ok ≡ every_finite p
       → u ≡ (room_refusal t have then refuse IndexTooShort 0 (ltb long (index_places count)) then refuse NumberNotFinite 0 (not ok)) → u ≡ verdict_of p have long
   unfolding ◌then◌ index_refusal finite_refusal
@@ -86,9 +82,9 @@ module _ (p : Problem) (have : List ℕ) (long : ℕ) {v : Verdict} (e : v ≡ r
       rw (sym e ∙ f) (h ∙ (λ i. room_refusal (same i) have then refuse IndexTooShort 0 (ltb long (index_places (few i))) then refuse NumberNotFinite 0 (not (g i))))
 
 module _ (p : Problem) (b : Buffers) {v : Verdict} (e : v ≡ verdict_of p (lengths b) (length b.index)) where
-  pub refused : {r : Rule} {k : ℕ} → v ≡ verdicts.refused r k → answered (verdicts.refused r k) b ≡ assembly p b
+  pub refused : {x : Refusal} {r : Answer} → v ≡ Err x → r ≡ Err x → answered r b ≡ assembly p b
   unfolding assembly answers.result outcome
-  refused f = rw (sym e ∙ f)
+  refused f g = rw (g, sym e ∙ f) refl
 
   -- what an acceptance passed: 1 to 18; 19; 28; 20
   passes : v ≡ verdicts.accepted → (refusal p ≡ verdicts.accepted) × (Enough (counts p) b × (HasIndex p b × (finite_refusal p ≡ verdicts.accepted)))

@@ -6,4 +6,4 @@ use Rattle.listing.specs.Rows.{charge}
 use Rattle.listing.proofs.Assembled.charges.Given as goal
 
 abbrev pub invariant-loop-k : goal.invariant-loop-k
-invariant-loop-k l = l.out ≡ written (over (charge (layout_in l.self) l.self.cost.now) 0 l.k) l.initial.out
+invariant-loop-k l = l.out ≡ written (over (charge (layout_in l.self) l.self.contents.cost.now) 0 l.k) l.initial.out

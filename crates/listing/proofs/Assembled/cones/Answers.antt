@@ -13,5 +13,5 @@ pub loop-j-preserved : goal.loop-j-preserved
 loop-j-preserved c =
     let x = c.args.self.now in
     let e : c.min.result ≡ min (c.loop-j.first.at + c.number_at-dimension.result) x.counts.rows = search rules in
-    let next = next_first x.counts.rows x.dimensions.now c.loop-j.j c.loop-j.invariant.0 (e ∙ ap (λ (d : ℕ). min (c.loop-j.first.at + d) x.counts.rows) c.number_at-dimension.ensures) in
-    (next, omega (arith, e), written_cone x.counts.rows x.dimensions.now c.loop-j.j c.loop-j.invariant.0 (layout_in x) (matrix_in x) x.counts.entries x.right.now x.kinds.now _ next c.loop-j.invariant.2 c.cone_head.ensures c.cone_rows.ensures)
+    let next = next_first x.counts.rows x.contents.dimensions.now c.loop-j.j c.loop-j.invariant.0 (e ∙ ap (λ (d : ℕ). min (c.loop-j.first.at + d) x.counts.rows) c.number_at-dimension.ensures) in
+    (next, omega (arith, e), written_cone x.counts.rows x.contents.dimensions.now c.loop-j.j c.loop-j.invariant.0 (layout_in x) (matrix_in x) x.counts.entries x.contents.right.now x.contents.kinds.now _ next c.loop-j.invariant.2 c.cone_head.ensures c.cone_rows.ensures)

@@ -1,0 +1,36 @@
+// What a page is told of the buffers.
+ghost use Rattle.std.specs.Prelude.{◌≡◌};
+ghost use Rattle.model.specs.Lent.{buffers_of};
+ghost use Rattle.listing.specs.Listed.{contents_of};
+
+use model::Buffers;
+
+// What buffers 0 to 6 and the index hold, each lent by `&`.
+#[derive(Clone, Copy)]
+pub struct Contents<'a> {
+    pub rows: &'a [u32],
+    pub columns: &'a [u32],
+    pub values: &'a [f64],
+    pub right: &'a [f64],
+    pub kinds: &'a [u8],
+    pub dimensions: &'a [u32],
+    pub cost: &'a [f64],
+    pub index: &'a [usize],
+}
+
+impl<'a> From<&'a Buffers<'_>> for Contents<'a> {
+    ghost from_gives = { λ buffers contents. contents_of contents ≡ buffers_of buffers.now };
+
+    fn from(buffers: &'a Buffers<'_>) -> Contents<'a> {
+        Contents {
+            rows: buffers.rows,
+            columns: buffers.columns,
+            values: buffers.values,
+            right: buffers.right,
+            kinds: buffers.kinds,
+            dimensions: buffers.dimensions,
+            cost: buffers.cost,
+            index: buffers.index,
+        }
+    }
+}
