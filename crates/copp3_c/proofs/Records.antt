@@ -1,13 +1,12 @@
 -- An array whose elements are made one by one from another's.
 use Prim.Native.Nat.{ℕ, zero, suc, ◌+◌, ◌≤◌, ◌<◌}
 use native.Mathlib.Omega.{arith}
-use mathlib.Core.Path.{◌≡◌, refl, sym, ap, subst, ◌∙◌}
+use mathlib.Core.Path.{◌≡◌, refl, sym, subst, ◌∙◌}
 use mathlib.Core.List.{List, map}
 use lib.ListN.{length, get_or, length-map, get_or-map}
 use lib.Seq.{ext_get_or}
 use Rattle.std.proofs.Common.{inl, inr}
 use Rattle.std.proofs.lemmas.Bool.{cases_eq}
-use Rattle.std.proofs.lemmas.List.{get_or_default}
 use Rattle.std.specs.Fn.{Called, Mut}
 use Rattle.std.specs.Array.{IsFromFnResult, IsFromFnResultFrom}
 

@@ -1,5 +1,3 @@
-use Prim.Native.Nat.{min}
-use mathlib.Core.Path.{◌≡◌}
 use Rattle.copp3_c.proofs.KindCheck.{NoneBefore}
 use Rattle.copp3_c.proofs.kind_check.Given as goal
 
