@@ -8,13 +8,16 @@ use mathlib.Core.Logic.{◌↔◌, ◌≢◌}
 use mathlib.Core.List.{List}
 use lib.ListN.{length, get_or}
 use borrow.Author.Tests.{eq-eqb, ne_eqb}
+use Rattle.std.specs.Prelude.{Ok, Err}
 use Rattle.model.specs.Problem.{Problem, objectives}
+use Rattle.model.specs.Rules.{rule_number}
+use Rattle.model.specs.Verdicts.{Verdict, accepted}
 use Rattle.model.specs.Refusals.{refusal}
 use Rattle.model.specs.Counts.{counts, entry_bound}
 use Rattle.model.specs.Owners.{index_places}
 use Rattle.model.specs.Answers.{Told, outcome, sizing, Buffers, lengths, assembly}
-use Rattle.model.specs.declared.Verdict.{Verdict}
-use Rattle.model.specs.declared.Verdict.TheVariants.{Accepted, Refused}
+use Rattle.model.specs.declared.Refusal.{Refusal}
+use Rattle.model.proofs.Rules.{rule_positive}
 use Rattle.model.proofs.Room.{needs, Enough, Short, HasIndex}
 use Rattle.model.proofs.Written.{Writes, Formed}
 use Rattle.model.proofs.Demand1.{FiniteBelow, refused_unchanged, refused_alike, accepted_exactly, finite_written}
@@ -22,7 +25,7 @@ use Rattle.model.proofs.Demand3.{Acceptable, demand3}
 use Rattle.copp3_c.specs.declared.AnswerRecord.{AnswerRecord}
 use Rattle.copp3_c.specs.declared.ObjectiveRecord.{ObjectiveRecord}
 use Rattle.copp3_c.specs.Exported.{kind_refusal, refused_record, counts_record, answer_record, sizing_after, assembly_after, Exported, exported, exported_as, sized_as, assembled_as}
-use Rattle.copp3_c.proofs.KnownKinds.{AllKnown, Unknown, kind_unknown, kinds_known, kind_number}
+use Rattle.copp3_c.proofs.KnownKinds.{AllKnown, Unknown, kind_unknown, kinds_known}
 
 -- the record has the answer's number
 answer_number : (t : Told) → (answer_record t).number ≡ t.number
@@ -73,41 +76,41 @@ pub record ExportedDemand3 (count : ℕ) (items : List ObjectiveRecord) (p : Pro
 
 module _ (count : ℕ) (items : List ObjectiveRecord) (p : Problem) where
   -- with known kinds the functions answer as sizing and the assembly do
-  known_sized : kind_refusal count items ≡ Accepted → sized_as count items p ≡ answer_record (sizing p)
+  known_sized : kind_refusal count items ≡ accepted → sized_as count items p ≡ answer_record (sizing p)
   unfolding sizing_after
   known_sized e = rw e refl
 
-  known_assembled : kind_refusal count items ≡ Accepted → (b : Buffers) → assembled_as count items p b ≡ exported_as (assembly p b)
+  known_assembled : kind_refusal count items ≡ accepted → (b : Buffers) → assembled_as count items p b ≡ exported_as (assembly p b)
   unfolding assembly_after
   known_assembled e b = rw e refl
 
-  known_buffers : kind_refusal count items ≡ Accepted → (b : Buffers) → (assembled_as count items p b).buffers ≡ (assembly p b).buffers
+  known_buffers : kind_refusal count items ≡ accepted → (b : Buffers) → (assembled_as count items p b).buffers ≡ (assembly p b).buffers
   known_buffers e b = ap (λ (x : Exported). x.buffers) (known_assembled e b)
 
   -- else by the kind's refusal, with no buffer changed
-  refused_kind : {r k : ℕ} → kind_refusal count items ≡ Refused r k → (sized_as count items p ≡ refused_record r k) × ((b : Buffers) → assembled_as count items p b ≡ exported (refused_record r k) b)
+  refused_kind : {x : Refusal} → kind_refusal count items ≡ Err x → (sized_as count items p ≡ refused_record (rule_number x.rule) x.place) × ((b : Buffers) → assembled_as count items p b ≡ exported (refused_record (rule_number x.rule) x.place) b)
   unfolding sizing_after assembly_after answer_record
-  refused_kind {r} {k} e = let h = ne_eqb r 0 (omega (arith, kind_number count items e)) in (rw e (rw h refl), λ b. rw e (rw h refl))
+  refused_kind {x} e = let h = ne_eqb (rule_number x.rule) 0 (omega (arith, rule_positive x.rule)) in (rw e (rw h refl), λ b. rw e (rw h refl))
 
   -- the record of a success has the number 0, and then every kind is known
-  known_number : kind_refusal count items ≡ Accepted → (b : Buffers) → (assembled_as count items p b).answer.number ≡ (assembly p b).told.number
+  known_number : kind_refusal count items ≡ accepted → (b : Buffers) → (assembled_as count items p b).answer.number ≡ (assembly p b).told.number
   known_number e b = ap (λ (x : Exported). x.answer.number) (known_assembled e b) ∙ answer_number (assembly p b).told
 
-  success_known : (b : Buffers) → (assembled_as count items p b).answer.number ≡ 0 → kind_refusal count items ≡ Accepted
+  success_known : (b : Buffers) → (assembled_as count items p b).answer.number ≡ 0 → kind_refusal count items ≡ accepted
   success_known b z = go (kind_refusal count items) refl
     where
-      go : (v : Verdict) → kind_refusal count items ≡ v → kind_refusal count items ≡ Accepted
-      go Accepted e = e
-      go (Refused r k) e = absurd (omega (arith, kind_number count items e, sym (ap (λ (x : Exported). x.answer.number) ((refused_kind e).1 b)) ∙ z))
+      go : (v : Verdict) → kind_refusal count items ≡ v → kind_refusal count items ≡ accepted
+      go (Ok tt) e = e
+      go (Err x) e = absurd (omega (arith, rule_positive x.rule, sym (ap (λ (x : Exported). x.answer.number) ((refused_kind e).1 b)) ∙ z))
 
   unchanged : (b : Buffers) → (assembled_as count items p b).answer.number ≢ 0 → (assembled_as count items p b).buffers ≡ b
   unchanged b h = go (kind_refusal count items) refl
     where
       go : (v : Verdict) → kind_refusal count items ≡ v → (assembled_as count items p b).buffers ≡ b
-      go Accepted e = known_buffers e b ∙ refused_unchanged p b (λ z. h (known_number e b ∙ z))
-      go (Refused r k) e = ap (λ (x : Exported). x.buffers) ((refused_kind e).1 b)
+      go (Ok tt) e = known_buffers e b ∙ refused_unchanged p b (λ z. h (known_number e b ∙ z))
+      go (Err x) e = ap (λ (x : Exported). x.buffers) ((refused_kind e).1 b)
 
-  sizing_refuses : (sizing p).number ≢ 0 → refusal p ≢ Accepted
+  sizing_refuses : (sizing p).number ≢ 0 → refusal p ≢ accepted
   unfolding sizing outcome
   sizing_refuses h e = h (ap (λ (v : Verdict). (outcome v (counts p)).number) e)
 
@@ -115,8 +118,8 @@ module _ (count : ℕ) (items : List ObjectiveRecord) (p : Problem) where
   alike b h = go (kind_refusal count items) refl
     where
       go : (v : Verdict) → kind_refusal count items ≡ v → assembled_as count items p b ≡ exported (sized_as count items p) b
-      go (Refused r k) e = (refused_kind e).1 b ∙ ap (λ (x : AnswerRecord). exported x b) (sym (refused_kind e).0)
-      go Accepted e =
+      go (Err x) e = (refused_kind e).1 b ∙ ap (λ (x : AnswerRecord). exported x b) (sym (refused_kind e).0)
+      go (Ok tt) e =
           let s = known_sized e in
           let n : (sizing p).number ≢ 0 = λ z. h (ap (λ (x : AnswerRecord). x.number) s ∙ answer_number (sizing p) ∙ z) in
           let t = refused_alike p b (sizing_refuses n) in

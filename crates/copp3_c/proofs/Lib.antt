@@ -1,5 +1,4 @@
 mod Records
 mod KnownKinds
 mod KindCheck
-mod Answered
 pub mod Demands

@@ -1,15 +1,14 @@
 -- What the exported functions add: plain records for objectives and for the answers, and the judgement of a kind.
-use Rattle.std.specs.Prelude.{ℕ, min, cond, List, [], ◌∷◌, map, eqb, ltb, get_or}
+use Rattle.std.specs.Prelude.{ℕ, min, cond, List, map, eqb, ltb, get_or, Ok, Err}
 use Rattle.std.specs.Float.{nan}
-use Rattle.model.specs.Verdicts.{lowest, itself}
+use Rattle.model.specs.Verdicts.{Verdict, lowest, itself}
 use Rattle.model.specs.Problem.{Problem}
 use Rattle.model.specs.Counts.{four_counts}
-use Rattle.model.specs.Answers.{Told, sizing, Buffers, Result, assembly}
+use Rattle.model.specs.Answers.{Told, told, sizing, Buffers, Result, answered, assembly}
 use Rattle.model.specs.declared.FourCounts.{FourCounts}
-use Rattle.model.specs.declared.Verdict.{Verdict}
-use Rattle.model.specs.declared.Verdict.TheVariants.{Accepted, Refused}
 use Rattle.model.specs.declared.Objective.{Objective}
 use Rattle.model.specs.declared.Objective.TheVariants.{Time, ThermalEnergy, TotalVariationTorque, Linear}
+use Rattle.model.specs.declared.rule.Rule.TheVariants.{UnknownKind}
 use Rattle.copp3_c.specs.declared.ObjectiveRecord.{ObjectiveRecord}
 use Rattle.copp3_c.specs.declared.ObjectiveRecords.{ObjectiveRecords}
 use Rattle.copp3_c.specs.declared.AnswerRecord.{AnswerRecord}
@@ -31,7 +30,7 @@ blank = record { kind = 0; weight = nan; start = 0; len = 0; start2 = 0; len2 = 
 
 -- 40: a record that counts has an unknown kind; place its index
 unfoldable pub kind_refusal : ℕ → List ObjectiveRecord → Verdict
-kind_refusal count items = lowest 40 itself (λ i. ltb 3 (get_or items i blank).kind) 0 (min count 16)
+kind_refusal count items = lowest UnknownKind itself (λ i. ltb 3 (get_or items i blank).kind) 0 (min count 16)
 
 -- a refusal's number and place, and no counts
 abbrev pub refused_record : ℕ → ℕ → AnswerRecord
@@ -57,12 +56,12 @@ owner_record t =
 
 -- the kinds are judged before refusal 1; what is refused changes no buffer
 unfoldable pub sizing_after : Verdict → Problem → Told
-sizing_after Accepted p = sizing p
-sizing_after (Refused r k) p = record { number = r; values = k ∷ [] }
+sizing_after (Ok tt) p = sizing p
+sizing_after (Err e) p = told (Err e)
 
 unfoldable pub assembly_after : Verdict → Problem → Buffers → Result
-assembly_after Accepted p b = assembly p b
-assembly_after (Refused r k) p b = record { told = record { number = r; values = k ∷ [] }; buffers = b }
+assembly_after (Ok tt) p b = assembly p b
+assembly_after (Err e) p b = answered (Err e) b
 
 -- the answer, and the buffers after it
 pub record Exported : Type 0 where

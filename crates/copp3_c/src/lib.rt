@@ -3,17 +3,20 @@
 
 #![tactic(auto)]
 
-ghost use Rattle.std.specs.Prelude.{◌≡◌, map, ℕ, min, ◌+◌, ◌^◌, ◌<◌};
-ghost use Rattle.copp3_c.specs.Exported.{objective_of, objectives_of, kind_refusal, answer_record, owner_record, sized_as, exported, assembled_as};
-ghost use Rattle.model.specs.Answers.{told};
-ghost use Rattle.model.specs.Lent.{at_entry, lent, buffers_before, buffers_after};
+ghost use Rattle.std.specs.Prelude.{◌≡◌, map, ℕ, ◌+◌, ◌^◌, ◌<◌, Ok};
+ghost use Rattle.copp3_c.specs.Exported.{objective_of, objectives_of, kind_refusal, answer_record, owner_record, sizing_after, assembly_after, sized_as, exported, assembled_as};
+ghost use Rattle.model.specs.Answers.{told, answered};
+ghost use Rattle.model.specs.Lent.{at_entry, lent, buffers_before, buffers_after, problem_of, buffers_of, SameBuffers};
 ghost use Rattle.model.specs.OwnerAnswers.{told_owner, owner_of_row, owner_of_column};
-ghost use Rattle.model.specs.declared.Answer.TheVariants.{Refusal};
-ghost use Rattle.model.specs.declared.OwnerAnswer.TheVariants.{ObjectiveNumber};
+ghost use Rattle.model.specs.declared.Owner.TheVariants.{ObjectiveNumber};
 
-use model::{Answer, Column, Job, Objective, OwnerAnswer, Row, Verdict};
+use model::{
+    Acceleration, Answer, Buffers, Column, Jerk, Job, Objective, Owner, OwnerAnswer, OwnerRefusal,
+    Problem, Roots, Row, Rule, Torque, Verdict,
+};
+use std::array::from_fn;
 
-// kind: 0 Time, 1 ThermalEnergy, 2 TotalVariationTorque, 3 Linear. The parts (start, length) of the pool: scales, or alpha and then beta.
+// The kind is a number since the C interface hands over any: 0 Time, 1 ThermalEnergy, 2 TotalVariationTorque, 3 Linear. The parts (start, length) of the pool: scales, or alpha and then beta.
 #[repr(C)]
 #[derive(Clone, Copy)]
 pub struct ObjectiveRecord {
@@ -31,9 +34,9 @@ pub struct ObjectiveRecords {
     pub items: [ObjectiveRecord; 16],
 }
 
-// number 0: accepted, with the four counts; else a refusal's number and place.
+// number 0: accepted, with the four counts; else a refusal's number and place. A number and no Result: the C interface needs it.
 #[repr(C)]
-#[derive(Clone, Copy)]
+#[derive(Clone, Copy, PartialEq, Eq)]
 pub struct AnswerRecord {
     pub number: usize,
     pub place: usize,
@@ -43,9 +46,9 @@ pub struct AnswerRecord {
     pub columns: usize,
 }
 
-// number 0: the owner, 0 standard rows, 1 root stage, 2 + i objective i; else a refusal's number and place.
+// number 0: the owner, 0 standard rows, 1 root stage, 2 + i objective i; else a refusal's number and place. Numbers, as in AnswerRecord.
 #[repr(C)]
-#[derive(Clone, Copy)]
+#[derive(Clone, Copy, PartialEq, Eq)]
 pub struct OwnerRecord {
     pub number: usize,
     pub place: usize,
@@ -53,134 +56,118 @@ pub struct OwnerRecord {
 }
 
 // The objective that a record stands for.
-fn objective_of(r: ObjectiveRecord) -> Objective
-    ensures { result ≡ objective_of r }
-{
-    if r.kind == 0 {
-        return Objective::Time(r.weight);
-    }
-    if r.kind == 1 {
-        return Objective::ThermalEnergy {
-            weight: r.weight,
-            start: r.start,
-            len: r.len,
-        };
-    }
-    if r.kind == 2 {
-        return Objective::TotalVariationTorque {
-            weight: r.weight,
-            start: r.start,
-            len: r.len,
-        };
-    }
-    Objective::Linear {
-        weight: r.weight,
-        alpha: r.start,
-        alpha_len: r.len,
-        beta: r.start2,
-        beta_len: r.len2,
-    }
-}
+impl From<ObjectiveRecord> for Objective {
+    ghost from_gives = { λ r o. o ≡ objective_of r };
 
-fn objectives_of(items: [ObjectiveRecord; 16]) -> [Objective; 16]
-    ensures { result ≡ map objective_of items }
-{
-    let mut os = [Objective::Time(0.0); 16];
-    for i in 0..16 {
-        os[i] = objective_of(items[i]);
-    }
-    os
-}
-
-// How many records count.
-fn counting(count: usize) -> usize
-    ensures { result ≡ min count 16 }
-{
-    if count < 16 { count } else { 16 }
-}
-
-// Whether each kind that counts is known.
-#[tactic(auto, using(crate::proofs::KindCheck::unknown_refused))]
-fn kind_check(items: [ObjectiveRecord; 16], count: usize) -> Verdict
-    ensures { result ≡ kind_refusal count items }
-{
-    let end = counting(count);
-    for i in 0..end {
-        let r = items[i];
-        if 3 < r.kind {
-            return Verdict::Refused {
-                number: 40,
-                place: i,
-            };
+    #[tactic(auto, unfolding(crate::specs::Exported::objective_of))]
+    fn from(r: ObjectiveRecord) -> Objective {
+        match r.kind {
+            0 => Objective::Time(r.weight),
+            1 => Objective::ThermalEnergy {
+                weight: r.weight,
+                start: r.start,
+                len: r.len,
+            },
+            2 => Objective::TotalVariationTorque {
+                weight: r.weight,
+                start: r.start,
+                len: r.len,
+            },
+            _ => Objective::Linear {
+                weight: r.weight,
+                alpha: r.start,
+                alpha_len: r.len,
+                beta: r.start2,
+                beta_len: r.len2,
+            },
         }
     }
-    Verdict::Accepted
 }
 
-// A refusal's number is above 0; the number 0 tells of a success.
-fn answer_record(a: Answer) -> AnswerRecord
-    requires { (r k : ℕ) → a ≡ Refusal r k → 0 < r }
-    ensures { result ≡ answer_record (told a) }
+fn objectives_of(items: &[ObjectiveRecord; 16]) -> [Objective; 16]
+    ensures { result ≡ map objective_of items.now }
 {
-    match a {
-        Answer::Refusal { number, place } => AnswerRecord {
-            number: number,
-            place: place,
-            entries: 0,
-            rows: 0,
-            cones: 0,
-            columns: 0,
-        },
-        Answer::Counts {
-            entries,
-            rows,
-            cones,
-            columns,
-        } => AnswerRecord {
-            number: 0,
-            place: 0,
-            entries: entries,
-            rows: rows,
-            cones: cones,
-            columns: columns,
-        },
+    from_fn(|i| Objective::from(items[i]))
+}
+
+// Refuses the first record that counts and has an unknown kind.
+#[tactic(auto, using(crate::proofs::KindCheck::none_yet, crate::proofs::KindCheck::known_next, crate::proofs::KindCheck::all_known))]
+fn kind_check(items: &[ObjectiveRecord; 16], count: usize) -> Verdict
+    ensures { result ≡ kind_refusal count items.now }
+{
+    for (i, r) in items[..count.min(16)].iter().enumerate() {
+        Rule::UnknownKind.refuse_if(i, 3 < r.kind)?;
+    }
+    Ok(())
+}
+
+// The number 0 tells of a success; a refusal's is above 0.
+impl From<Answer> for AnswerRecord {
+    ghost from_gives = { λ a r. r ≡ answer_record (told a) };
+
+    #[tactic(auto, using(model::proofs::Rules::rule_positive), unfolding(crate::specs::Exported::answer_record))]
+    fn from(answer: Answer) -> AnswerRecord {
+        match answer {
+            Ok(counts) => AnswerRecord {
+                number: 0,
+                place: 0,
+                entries: counts.entries,
+                rows: counts.rows,
+                cones: counts.cones,
+                columns: counts.columns,
+            },
+            Err(refusal) => AnswerRecord {
+                number: refusal.rule.number(),
+                place: refusal.place,
+                entries: 0,
+                rows: 0,
+                cones: 0,
+                columns: 0,
+            },
+        }
     }
 }
 
-fn owner_record(a: OwnerAnswer) -> OwnerRecord
-    requires { (i : ℕ) → a ≡ ObjectiveNumber i → 2 + i < 2 ^ 64 }
-    ensures { result ≡ owner_record (told_owner a) }
+// No From, which would be no plainer: 2 + i may pass 64 bits, and a From asks nothing of its callers.
+#[tactic(auto, unfolding(crate::specs::Exported::owner_record))]
+fn owner_record(answer: OwnerAnswer) -> OwnerRecord
+    requires { (i : ℕ) → answer ≡ Ok (ObjectiveNumber i) → 2 + i < 2 ^ 64 }
+    ensures { result ≡ owner_record (told_owner answer) }
 {
-    match a {
-        OwnerAnswer::StandardRows => OwnerRecord {
-            number: 0,
-            place: 0,
-            owner: 0,
-        },
-        OwnerAnswer::RootStage => OwnerRecord {
-            number: 0,
-            place: 0,
-            owner: 1,
-        },
-        OwnerAnswer::ObjectiveNumber(i) => OwnerRecord {
-            number: 0,
-            place: 0,
-            owner: 2 + i,
-        },
-        OwnerAnswer::IndexTooShort => OwnerRecord {
-            number: 28,
-            place: 0,
-            owner: 0,
-        },
-        OwnerAnswer::NotCovered => OwnerRecord {
-            number: 29,
-            place: 0,
-            owner: 0,
-        },
+    let (number, owner) = match answer {
+        Ok(Owner::StandardRows) => (0, 0),
+        Ok(Owner::RootStage) => (0, 1),
+        Ok(Owner::ObjectiveNumber(i)) => (0, 2 + i),
+        Err(OwnerRefusal::IndexTooShort) => (28, 0),
+        Err(OwnerRefusal::NotCovered) => (29, 0),
+    };
+    OwnerRecord {
+        number,
+        place: 0,
+        owner,
     }
 }
 
-// Document 01's sizing: every refusal tested before 19, or the four counts.
+// Sizing of a problem whose objectives the records stand for: their kinds are judged first.
+#[tactic(auto, unfolding(crate::specs::Exported::sizing_after))]
+fn size(items: &[ObjectiveRecord; 16], problem: &Problem) -> Answer
+    ensures { told result ≡ sizing_after (kind_refusal problem.now.job.count items.now) (problem_of problem.now) }
+{
+    kind_check(items, problem.job.count)?;
+    sizing::size(problem)
+}
+
+// The assembly, in the same order.
+#[tactic(auto, unfolding(crate::specs::Exported::assembly_after))]
+fn assemble(items: &[ObjectiveRecord; 16], problem: &Problem, out: &mut Buffers) -> Answer
+    ensures same { SameBuffers out.old out.new }
+    ensures answer { answered result (buffers_of out.new) ≡ assembly_after (kind_refusal problem.now.job.count items.now) (problem_of problem.now) (buffers_of out.old) }
+{
+    kind_check(items, problem.job.count)?;
+    assembly::assemble(problem, out)
+}
+
+// Document 01's sizing: every refusal tested before 19, or the four counts. One slice for each table: the C interface needs it.
 pub fn copp3_size(
     job: Job,
     records: ObjectiveRecords,
@@ -205,37 +192,40 @@ pub fn copp3_size(
 ) -> AnswerRecord
     ensures { result ≡ sized_as job.count records.items (lent job (objectives_of records) grid acc_rows jerk_rows amax acc_a acc_b acc_max jerk_a jerk_b jerk_c jerk_max thermal torque_a torque_b torque_g start_roots end_roots pool) }
 {
-    let items = records.items;
-    let known = kind_check(items, job.count);
-    if let Verdict::Refused { number, place } = known {
-        return answer_record(Answer::Refusal { number, place });
-    }
-    let a = sizing::size(
+    let problem = Problem {
         job,
-        objectives_of(items),
+        objectives: objectives_of(&records.items),
         grid,
-        acc_rows,
-        jerk_rows,
+        acceleration: Acceleration {
+            rows: acc_rows,
+            a: acc_a,
+            b: acc_b,
+            max: acc_max,
+        },
+        jerk: Jerk {
+            rows: jerk_rows,
+            a: jerk_a,
+            b: jerk_b,
+            c: jerk_c,
+            max: jerk_max,
+        },
         amax,
-        acc_a,
-        acc_b,
-        acc_max,
-        jerk_a,
-        jerk_b,
-        jerk_c,
-        jerk_max,
         thermal,
-        torque_a,
-        torque_b,
-        torque_g,
-        start_roots,
-        end_roots,
+        torque: Torque {
+            a: torque_a,
+            b: torque_b,
+            g: torque_g,
+        },
+        roots: Roots {
+            start: start_roots,
+            end: end_roots,
+        },
         pool,
-    );
-    answer_record(a)
+    };
+    AnswerRecord::from(size(&records.items, &problem))
 }
 
-// Document 01's assembly.
+// Document 01's assembly. One slice for each table and each buffer, as there.
 pub fn copp3_assemble(
     job: Job,
     records: ObjectiveRecords,
@@ -268,32 +258,37 @@ pub fn copp3_assemble(
 ) -> AnswerRecord
     ensures { exported result (buffers_after rows columns values right kinds dimensions cost index) ≡ assembled_as job.count records.items (lent job (objectives_of records) grid acc_rows jerk_rows amax acc_a acc_b acc_max jerk_a jerk_b jerk_c jerk_max thermal torque_a torque_b torque_g start_roots end_roots pool) (buffers_before rows columns values right kinds dimensions cost index) }
 {
-    let items = records.items;
-    let known = kind_check(items, job.count);
-    if let Verdict::Refused { number, place } = known {
-        return answer_record(Answer::Refusal { number, place });
-    }
-    let a = assembly::assemble(
+    let problem = Problem {
         job,
-        objectives_of(items),
+        objectives: objectives_of(&records.items),
         grid,
-        acc_rows,
-        jerk_rows,
+        acceleration: Acceleration {
+            rows: acc_rows,
+            a: acc_a,
+            b: acc_b,
+            max: acc_max,
+        },
+        jerk: Jerk {
+            rows: jerk_rows,
+            a: jerk_a,
+            b: jerk_b,
+            c: jerk_c,
+            max: jerk_max,
+        },
         amax,
-        acc_a,
-        acc_b,
-        acc_max,
-        jerk_a,
-        jerk_b,
-        jerk_c,
-        jerk_max,
         thermal,
-        torque_a,
-        torque_b,
-        torque_g,
-        start_roots,
-        end_roots,
+        torque: Torque {
+            a: torque_a,
+            b: torque_b,
+            g: torque_g,
+        },
+        roots: Roots {
+            start: start_roots,
+            end: end_roots,
+        },
         pool,
+    };
+    let mut out = Buffers {
         rows,
         columns,
         values,
@@ -302,8 +297,8 @@ pub fn copp3_assemble(
         dimensions,
         cost,
         index,
-    );
-    answer_record(a)
+    };
+    AnswerRecord::from(assemble(&records.items, &problem, &mut out))
 }
 
 // Request 6: the owner of a row, by an index with a number of objectives. Here a row number is plain for the last time.

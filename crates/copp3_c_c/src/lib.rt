@@ -1,4 +1,5 @@
 // The static library for C and Rust: the functions of copp3_c under their own names, with the same clauses. include/copp3_assembly.h declares them.
+// One slice for each table and each buffer: the C interface needs it.
 #![tactic(auto)]
 
 ghost use Rattle.std.specs.Prelude.{◌≡◌};

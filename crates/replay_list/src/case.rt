@@ -59,14 +59,6 @@ fn assembly_at(answers: Place<'_>) -> AnswerRecord
     }
 }
 
-fn same_answer(a: AnswerRecord, b: AnswerRecord) -> bool
-    ensures { result ≡ true → a ≡ b }
-{
-    let refusal = (a.number == b.number) & (a.place == b.place);
-    let entries = (a.entries == b.entries) & (a.rows == b.rows);
-    refusal & entries & (a.cones == b.cones) & (a.columns == b.columns)
-}
-
 // How many places of the index are written: eight for each objective and for the two owners before them.
 #[tactic(auto, unfolding(crate::specs::Format::index_written))]
 fn index_written(count: usize, answer: AnswerRecord) -> usize
@@ -87,7 +79,7 @@ fn assembly_agrees(case: &Case<'_>, decoded: &Decoded) -> bool
     let expected = assembly_at(case.start.to(case.places.answers));
     let written = index_written(decoded.job.count, expected);
     let rows = case.start.to(case.places.held);
-    same_answer(answer, expected) && arrays.agree(rows, expected, written)
+    answer == expected && arrays.agree(rows, expected, written)
 }
 
 // Whether the buffers' lengths are within the arrays here.
@@ -123,7 +115,7 @@ fn case_agrees(case: &Case<'_>) -> bool
     }
     let decoded = decode(case);
     let sized = sizing_at(case.start.to(case.places.answers));
-    same_answer(lent::size(&decoded), sized) && assembly_agrees(case, &decoded)
+    lent::size(&decoded) == sized && assembly_agrees(case, &decoded)
 }
 
 // Where the next case begins, which the list's own numbers say.

@@ -1,6 +1,5 @@
-use Prim.Native.Nat.{◌≤◌}
 use Rattle.copp3_c.proofs.KindCheck.{NoneBefore}
 use Rattle.copp3_c.proofs.kind_check.Given as goal
 
 abbrev pub invariant-loop-i : goal.invariant-loop-i
-invariant-loop-i l = (l.end ≤ 16) × NoneBefore l.count l.items l.i l.end
+invariant-loop-i l = NoneBefore l.count l.items l.i
