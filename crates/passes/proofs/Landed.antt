@@ -7,7 +7,7 @@ use native.Mathlib.Nat.{zero-add}
 use native.Mathlib.Omega.{arith}
 use lib.Ieee.{Float}
 use lib.ListN.{length, drop, length-map}
-use lib.Seq.{sets, sets-eq, length-sets}
+use lib.Seq.{sets, sets-eq}
 use lib.Dec.{ltb}
 use Rattle.model.specs.Problem.{Problem, objectives}
 use Rattle.model.specs.Assembled.{cones, bands, entries, right_side, cost, row_numbers, column_numbers, values, cone_kinds, cone_dimensions, list_lengths}

@@ -21,7 +21,6 @@ use Rattle.model.specs.declared.Tally.{Tally}
 use Rattle.model.proofs.Counted.{same_counts}
 use Rattle.model.proofs.Owned.{objectives_blocks}
 use Rattle.buffers.specs.Buffers.{State, state_of, Built, Builds}
-use Rattle.model.specs.Lent.{SameBuffers}
 use Rattle.model.specs.declared.Buffers.{Buffers}
 use Rattle.buffers.specs.Owned.{counts_of, owner_between, reowned, StoresOwner, PutsOwner}
 use Rattle.buffers.proofs.Laws.{sets-append, same_then}

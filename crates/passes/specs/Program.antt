@@ -1,5 +1,5 @@
 -- The assembled program as one block, and the tally before it and after it.
-use Rattle.std.specs.Prelude.{◌≡◌, List, [], ℕ, ◌+◌, Float, length}
+use Rattle.std.specs.Prelude.{◌≡◌, List, [], ℕ, ◌+◌, length}
 use Rattle.std.proofs.lemmas.List.Edits.{sets}
 use Rattle.model.specs.Problem.{Problem, objectives}
 use Rattle.model.specs.Program.{Block}

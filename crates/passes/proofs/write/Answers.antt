@@ -1,5 +1,5 @@
 use Rattle.std.proofs.Common.{arith}
-use mathlib.Core.Path.{refl, ap}
+use mathlib.Core.Path.{ap}
 use Rattle.model.specs.Lent.{problem_of}
 use Rattle.model.specs.declared.Tally.{Tally}
 use Rattle.model.proofs.Usable.{usable, usable_sizes}
