@@ -91,7 +91,7 @@ pub fn put_right(t: Tally, out: &mut Buffers, x: f64) -> Tally
     Tally { rows: next, ..t }
 }
 
-// One cone more.
+// One cone more. The kind is a byte, which is what the buffer holds, and any byte was taken from the start; close_cone takes a ConeKind.
 pub fn put_cone(t: Tally, out: &mut Buffers, kind: u8, dim: usize) -> Tally
     requires { (t.cones + 1 < 2 ^ 64) × (dim < 2 ^ 32) }
     ensures { PutsCone t out.old result out.new kind dim }

@@ -180,6 +180,7 @@ pub struct Roots<'a> {
 #[derive(Clone, Copy)]
 pub struct Problem<'a> {
     pub job: Job,
+    // An array of 16 with the job's count beside it: document 01 names this form, and nothing here is on a heap.
     pub objectives: [Objective; 16],
     pub grid: &'a [f64],
     pub acceleration: Acceleration<'a>,

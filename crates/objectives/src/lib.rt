@@ -53,7 +53,7 @@ fn objective(t: Tally, out: &mut Buffers, input: &ObjectiveInput, o: Objective) 
     u
 }
 
-// Objective number i.
+// Objective number i: an objective goes by its place, as its owner does in the index.
 fn objective_at(
     t: Tally,
     out: &mut Buffers,

@@ -1,4 +1,5 @@
-// Each stage is lent the running tally and moves it forward. The work is done by the by-value function of the stage's own crate.
+// Each stage is lent the running tally and moves it forward: a thin function after the by-value core, the form that document 01 names. The work is done by the function of the
+// stage's own crate.
 
 #![tactic(auto)]
 

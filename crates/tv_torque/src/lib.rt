@@ -21,6 +21,7 @@ use model::{Buffers, Column, ConeKind, Tally, Term};
 use torque::ScaledTorque;
 
 // The two rows of joint i at an end: k is the moving station, z the resting one.
+// The bound on the own columns stands in each contract here, and in no struct, since the first own column differs from call to call.
 fn end_rows(
     t: Tally,
     out: &mut Buffers,
