@@ -27,7 +27,7 @@ impl<'a> Path<'a> {
     pub fn moving(self) -> usize
         ensures { result ≡ m (path self.entry.grid.now self.entry.ends) }
     {
-        self.grid.len() - 1 - self.ends.n0 - self.ends.n1
+        self.last() - self.ends.n0 - self.ends.n1
     }
 
     // The last moving station.
@@ -35,6 +35,6 @@ impl<'a> Path<'a> {
     pub fn stop(self) -> usize
         ensures { result ≡ stop (path self.entry.grid.now self.entry.ends) }
     {
-        self.grid.len() - 1 - self.ends.n1
+        self.last() - self.ends.n1
     }
 }
