@@ -243,8 +243,9 @@ typedef struct {
 } copp3_owner;
 
 /* Bytes of stack to reserve for a call of any of these functions, its arguments
- * and the caller's copies of them included; the same for every n. Rounded up
- * from what c/stack.c measures. Signal handlers come on top. */
+ * and the caller's copies of them included; the same for every n. Well above
+ * what c/stack.c measures, and not lowered, so that what is reserved stays
+ * enough. Signal handlers come on top. */
 #define COPP3_STACK_BYTES 10240
 
 /* Tells the four counts, or every refusal tested before 19. */
