@@ -1,15 +1,17 @@
 -- Loops from 0 on, lists that start further on, costs and blocks.
 use mathlib.Core.Path.{◌≡◌, refl, sym, ap, subst, ◌∙◌}
-use mathlib.Core.List.{List, [], ◌∷◌}
+use mathlib.Core.List.{List, [], ◌∷◌, map}
+use lib.ListN.{length}
+use lib.Seq.{length-sets}
 use Prim.Native.Nat.{ℕ, zero, suc, ◌+◌}
 use native.Mathlib.Omega.{arith}
 use native.Mathlib.Nat.{add-zero, zero-add, add-suc}
 use lib.Ieee.{Float}
 use Rattle.model.specs.Lists.{list}
-use Rattle.model.specs.Program.{Cone, Cell, nothing}
+use Rattle.model.specs.Program.{Cone, Block, Cell, nothing, dimension, entries_from, right_sides}
 use Rattle.model.specs.declared.Tally.{Tally}
 use Rattle.model.specs.declared.Buffers.{Buffers}
-use Rattle.buffers.specs.Buffers.{chunk, Closed, ClosedList, State, Built, Builds, Costs, FillsCost, PutsCost}
+use Rattle.buffers.specs.Buffers.{emit, bands_of, chunk, Closed, ClosedList, State, Built, Builds, Costs, FillsCost, PutsCost}
 use Rattle.buffers.proofs.Laws.{turns_more, cost_more, emit_none, lays_as, same_refl}
 
 pub turns_next : {t : Tally} {b : Buffers} {f : ℕ → Cone} {n : ℕ} {t' : Tally} {b' : Buffers} {i : ℕ} {t'' : Tally} {b'' : Buffers}
@@ -39,6 +41,36 @@ built_skip {s} = record { says = sym (emit_none s); entries = omega arith; rows 
 pub built_cost : {s s' : State} {cs : List Cone} {xs zs : List Float} {ys : List Cell} {b : ℕ}
     → Built s s' (record { cones = cs; cost = xs; charges = ys }) b → xs ≡ zs → Built s s' (record { cones = cs; cost = zs; charges = ys }) b
 built_cost {s} {s'} {cs} {ys} {b} p e = subst (λ (l : List Float). Built s s' (record { cones = cs; cost = l; charges = ys }) b) e p
+
+-- a block keeps the lengths
+module _ {s s' : State} {x : Block} {b : ℕ} (p : Built s s' x b) where
+  pub built_rows : length s'.rows ≡ length s.rows
+  unfolding emit
+  built_rows = ap (λ u. length u.rows) p.says ∙ length-sets s.rows s.tally.entries (map (λ e. e.row) (entries_from s.tally.rows.at (bands_of x.cones)))
+
+  pub built_columns : length s'.columns ≡ length s.columns
+  unfolding emit
+  built_columns = ap (λ u. length u.columns) p.says ∙ length-sets s.columns s.tally.entries (map (λ e. e.column) (entries_from s.tally.rows.at (bands_of x.cones)))
+
+  pub built_values : length s'.values ≡ length s.values
+  unfolding emit
+  built_values = ap (λ u. length u.values) p.says ∙ length-sets s.values s.tally.entries (map (λ e. e.value) (entries_from s.tally.rows.at (bands_of x.cones)))
+
+  pub built_right : length s'.right ≡ length s.right
+  unfolding emit
+  built_right = ap (λ u. length u.right) p.says ∙ length-sets s.right s.tally.rows.at (right_sides (bands_of x.cones))
+
+  pub built_kinds : length s'.kinds ≡ length s.kinds
+  unfolding emit
+  built_kinds = ap (λ u. length u.kinds) p.says ∙ length-sets s.kinds s.tally.cones (map (λ c. c.kind) x.cones)
+
+  pub built_dimensions : length s'.dimensions ≡ length s.dimensions
+  unfolding emit
+  built_dimensions = ap (λ u. length u.dimensions) p.says ∙ length-sets s.dimensions s.tally.cones (map dimension x.cones)
+
+  pub built_costs : length s'.cost ≡ length s.cost
+  unfolding emit
+  built_costs = ap (λ u. length u.cost) p.says ∙ length-sets s.cost s.tally.columns.at x.cost
 
 -- the same of the buffers that were lent
 pub builds_skip : {t : Tally} {b : Buffers} {n : ℕ} → Builds t b t b nothing n

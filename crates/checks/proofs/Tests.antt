@@ -1,9 +1,18 @@
--- Tests on floats, as the code writes them.
+-- Tests on floats and on whole numbers.
+use Prim.Native.Nat.{ℕ, ◌+◌, ◌≤◌, ◌<◌}
+use native.Mathlib.Omega.{arith}
+use native.Mathlib.Numerals.{add-one}
 use mathlib.Core.Path.{◌≡◌, refl}
-use mathlib.Core.Bool.{true, false, ◌||◌}
+use mathlib.Core.Bool.{Bool, true, false, ◌||◌}
+use mathlib.Core.List.{List}
+use lib.Dec.{ltb, leb}
+use lib.ListN.{length, drop, get_or}
+use lib.Seq.{drop-cons}
+use borrow.Author.Tests.{ltb-true, ltb-false, leb-true, leb-false}
 use lib.Ieee.{Float, nan, inf, fin, eq, of_bits, binary64}
 use Rattle.std.specs.Prelude.{is_nan}
 use Rattle.model.specs.Numbers.{unusable}
+use Rattle.model.specs.Lists.{total}
 
 pub nan_or_low : (x : Float) → (is_nan x || eq x (of_bits binary64 0xfff0000000000000)) ≡ unusable x
 unfolding lib.Ieee.is_nan eq of_bits
@@ -11,3 +20,25 @@ nan_or_low nan = refl
 nan_or_low (inf true) = refl
 nan_or_low (inf false) = refl
 nan_or_low (fin s m k) = refl
+
+-- tests that say the same; one more number of a sum
+pub ltb_same : (a b c d : ℕ) → (a < b → c < d) → (c < d → a < b) → ltb a b ≡ ltb c d
+ltb_same a b c d f g = go (ltb a b) (ltb c d) refl refl
+  where
+    go : (x y : Bool) → ltb a b ≡ x → ltb c d ≡ y → x ≡ y
+    go true true e h = refl
+    go false false e h = refl
+    go true false e h = absurd (omega (arith, f (ltb-true a b e), ltb-false c d h))
+    go false true e h = absurd (omega (arith, g (ltb-true c d h), ltb-false a b e))
+
+pub leb_same : (a b c d : ℕ) → (a ≤ b → c ≤ d) → (c ≤ d → a ≤ b) → leb a b ≡ leb c d
+leb_same a b c d f g = go (leb a b) (leb c d) refl refl
+  where
+    go : (x y : Bool) → leb a b ≡ x → leb c d ≡ y → x ≡ y
+    go true true e h = refl
+    go false false e h = refl
+    go true false e h = absurd (omega (arith, f (leb-true a b e), leb-false c d h))
+    go false true e h = absurd (omega (arith, g (leb-true c d h), leb-false a b e))
+
+pub total_next : (l : List ℕ) (k : ℕ) → k < length l → total (drop k l) ≡ get_or l k 0 + total (drop (k + 1) l)
+total_next l k h = rw (add-one, drop-cons l k 0)

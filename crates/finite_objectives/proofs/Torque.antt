@@ -2,12 +2,12 @@
 use mathlib.Core.Path.{◌≡◌, refl, sym, ap, ap₂, ◌∙◌}
 use mathlib.Core.Bool.{Bool, true, false, ◌&&◌}
 use mathlib.Core.List.{List, [], ◌∷◌, ◌++◌, append-nil}
-use Prim.Native.Nat.{ℕ, zero, suc, ◌+◌, ◌*◌, ◌-◌, ◌<◌}
+use Prim.Native.Nat.{ℕ, zero, suc, ◌+◌, ◌*◌, ◌-◌, ◌<◌, max}
 use native.Mathlib.Nat.{mul-pos}
 use native.Mathlib.Omega.{arith}
 use lib.Dec.{ltb}
 use lib.Ieee.{Float, neg, of_bits}
-use lib.ListN.{replicate}
+use lib.ListN.{length, replicate}
 use Rattle.model.specs.Numbers.{finite, at, ◌⊕◌, ◌⊖◌, ◌⊗◌, +4}
 use Rattle.model.specs.Lists.{list, over, given}
 use Rattle.model.specs.Problem.{Path, Torque, stop, skip, m, n, L, ends, flag}
@@ -24,6 +24,11 @@ use Rattle.finite_objectives.proofs.Costs.{from_zero}
 pub own_columns : (q : Path) (d : ℕ) → q.N0 + q.N1 < n q → 0 < d → 0 < d * (ends q + m q)
 unfolding m
 own_columns q d l h = mul-pos h (omega arith)
+
+-- the numbers of a loop over stations
+pub xi_stations : (q : Path) {a c j : ℕ} → a ≡ max q.N0 1 → c ≡ L q → 2 < length q.grid → j < c → a + j < length q.grid
+unfolding L
+xi_stations q e f l h = omega arith
 
 -- ---- flags
 

@@ -16,6 +16,9 @@ use Rattle.model.proofs.Counted.{same_counts}
 pub no_counts : {t : FourCounts} → (t.entries ≡ 0) × ((t.rows ≡ 0) × ((t.cones ≡ 0) × (t.columns ≡ 0))) → t ≡ four_counts 0 0 0 0
 no_counts d = same_counts d.0 d.1.0 d.1.1.0 d.1.1.1
 
+pub none_yet : (p : Problem) (os : List Objective) → objectives_counts p os ≡ (four_counts 0 0 0 0 plus objectives_counts p os)
+none_yet p os = same_counts (omega arith) (omega arith) (omega arith) (omega arith)
+
 module _ (p : Problem) (os : List Objective) (i : ℕ) (t : FourCounts) (so_far : objectives_counts p os ≡ (t plus objectives_counts p (drop i os))) where
   pub one_more : (o : Objective) {a b : FourCounts} → i < length os → a ≡ objective_counts p (get_or os i o) → b ≡ (t plus a) → objectives_counts p os ≡ (b plus objectives_counts p (drop (i + 1) os))
   unfolding objectives_counts

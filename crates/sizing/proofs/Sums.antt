@@ -1,5 +1,5 @@
 -- Sums over the numbers from k to below e.
-use Prim.Native.Nat.{ℕ, zero, suc, ◌+◌, ◌-◌, ◌<◌}
+use Prim.Native.Nat.{ℕ, zero, suc, ◌+◌, ◌-◌, ◌≤◌, ◌<◌}
 use native.Mathlib.Omega.{arith}
 use native.Mathlib.Numerals.{add-one}
 use mathlib.Core.Path.{◌≡◌, ap}
@@ -8,6 +8,9 @@ use Rattle.model.specs.Lists.{sum_over}
 module _ (f : ℕ → ℕ) where
   pub sum_next : (k e : ℕ) → k < e → sum_over f k (e - k) ≡ f k + sum_over f (k + 1) (e - (k + 1))
   sum_next k e h = let z : e - k ≡ suc (e - (k + 1)) = omega arith in rw (z, add-one k)
+
+  pub sum_none : (k e : ℕ) → e ≤ k → sum_over f k (e - k) ≡ 0
+  sum_none k e h = let z : e - k ≡ 0 = omega arith in rw z
 
   -- the last number of a sum
   sum_last : (k c : ℕ) → sum_over f k (suc c) ≡ sum_over f k c + f (k + c)

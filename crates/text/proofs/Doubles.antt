@@ -1,6 +1,6 @@
 -- What the tests of `nearest`, `fraction` and `number` tell.
-use Rattle.std.proofs.Common.{◌≡◌, ℕ, ◌/◌, ◌%◌, ◌^◌, Bool, true, false, cond, ◌&&◌, T, ltb, ◌++◌, pos, Option, Some, None, sym, refl, ap, ◌∙◌, subst, arith}
-use lib.Ieee.{Float, nan, inf, fin, binary64, is_nan, lt, eq, to_unsigned, to_bits}
+use Rattle.std.proofs.Common.{◌≡◌, ℕ, ◌/◌, ◌%◌, ◌^◌, Bool, true, false, cond, not, ◌&&◌, T, ltb, ◌++◌, pos, Option, Some, None, sym, refl, ap, ◌∙◌, subst, arith}
+use lib.Ieee.{Float, nan, inf, fin, binary64, is_nan, lt, eq, ne, to_unsigned, to_bits}
 use Rattle.text.specs.Number.{scaled, ten_thousandths, nearest, magnitude, fraction, sign, shown, number}
 use Rattle.text.specs.Text.{ascii}
 use Rattle.text.specs.Digits.{digits, decimal}
@@ -8,6 +8,13 @@ use Rattle.text.specs.Digits.{digits, decimal}
 pub nearest_tells : (x : Float) (k : ℕ) (p q r s : Bool) → k ≡ to_unsigned 64 (scaled x) → lt (fin true 1 (pos 0)) (scaled x) ≡ p → lt (scaled x) (fin false 1 (pos 64)) ≡ q → ltb k (2 ^ 51) ≡ r → eq (ten_thousandths k) x ≡ s → cond (p && (q && (r && s))) (Some k) None ≡ nearest x
 unfolding nearest
 nearest_tells x k p q r s is low high small back = cc
+
+-- a number that equals itself is no NaN
+pub no_nan : (x : Float) → ne x x ≡ false → T (not (is_nan x))
+unfolding is_nan ne
+no_nan nan e = subst T e tt
+no_nan (inf s) e = tt
+no_nan (fin s k e') e = tt
 
 pub number_nan : (x : Float) → is_nan x ≡ true → number x ≡ ascii "NaN"
 unfolding number is_nan
