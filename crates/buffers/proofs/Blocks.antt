@@ -11,7 +11,7 @@ use Rattle.model.specs.Lists.{list}
 use Rattle.model.specs.Program.{Cone, Block, Cell, nothing, dimension, entries_from, right_sides}
 use Rattle.model.specs.declared.Tally.{Tally}
 use Rattle.model.specs.declared.Buffers.{Buffers}
-use Rattle.buffers.specs.Buffers.{emit, bands_of, chunk, Closed, ClosedList, State, Built, Builds, Costs, FillsCost, PutsCost}
+use Rattle.buffers.specs.Buffers.{emit, bands_of, chunk, Closed, ClosedList, Chunk, Lays, State, Built, Builds, Costs, FillsCost, PutsCost}
 use Rattle.buffers.proofs.Laws.{turns_more, cost_more, emit_none, lays_as, same_refl}
 
 pub turns_next : {t : Tally} {b : Buffers} {f : ℕ → Cone} {n : ℕ} {t' : Tally} {b' : Buffers} {i : ℕ} {t'' : Tally} {b'' : Buffers}
@@ -79,3 +79,33 @@ builds_skip {t} {b} = record { same = same_refl b; index = refl; built = built_s
 pub builds_cost : {t : Tally} {b : Buffers} {t' : Tally} {b' : Buffers} {cs : List Cone} {xs zs : List Float} {ys : List Cell} {n : ℕ}
     → Builds t b t' b' (record { cones = cs; cost = xs; charges = ys }) n → xs ≡ zs → Builds t b t' b' (record { cones = cs; cost = zs; charges = ys }) n
 builds_cost p e = record { same = p.same; index = p.index; built = built_cost p.built e }
+
+-- whatever is laid over the buffers, they keep their lengths
+module _ {t t' : Tally} {b b' : Buffers} {a : Chunk} (p : Lays t b t' b' a) where
+  pub lays_rows : length b'.rows.now ≡ length b.rows.now
+  unfolding emit
+  lays_rows = ap (λ (u : State). length u.rows) p.says ∙ length-sets b.rows.now t.entries (map (λ e. e.row) a.entries)
+
+  pub lays_columns : length b'.columns.now ≡ length b.columns.now
+  unfolding emit
+  lays_columns = ap (λ (u : State). length u.columns) p.says ∙ length-sets b.columns.now t.entries (map (λ e. e.column) a.entries)
+
+  pub lays_values : length b'.values.now ≡ length b.values.now
+  unfolding emit
+  lays_values = ap (λ (u : State). length u.values) p.says ∙ length-sets b.values.now t.entries (map (λ e. e.value) a.entries)
+
+  pub lays_right : length b'.right.now ≡ length b.right.now
+  unfolding emit
+  lays_right = ap (λ (u : State). length u.right) p.says ∙ length-sets b.right.now t.rows.at a.right
+
+  pub lays_kinds : length b'.kinds.now ≡ length b.kinds.now
+  unfolding emit
+  lays_kinds = ap (λ (u : State). length u.kinds) p.says ∙ length-sets b.kinds.now t.cones (map (λ c. c.kind) a.cones)
+
+  pub lays_dimensions : length b'.dimensions.now ≡ length b.dimensions.now
+  unfolding emit
+  lays_dimensions = ap (λ (u : State). length u.dimensions) p.says ∙ length-sets b.dimensions.now t.cones (map dimension a.cones)
+
+  pub lays_cost : length b'.cost.now ≡ length b.cost.now
+  unfolding emit
+  lays_cost = ap (λ (u : State). length u.cost) p.says ∙ length-sets b.cost.now t.columns.at a.cost

@@ -2,17 +2,17 @@
 use Prim.Native.Nat.{ℕ, ◌+◌, ◌≤◌, ◌<◌}
 use native.Mathlib.Omega.{arith}
 use native.Mathlib.Numerals.{add-one}
-use mathlib.Core.Path.{◌≡◌, refl}
+use mathlib.Core.Path.{◌≡◌, refl, ◌∙◌}
 use mathlib.Core.Bool.{Bool, true, false, ◌||◌}
 use mathlib.Core.List.{List}
 use lib.Dec.{ltb, leb}
 use lib.ListN.{length, drop, get_or}
-use lib.Seq.{drop-cons}
+use lib.Seq.{drop-cons, get_or-take, get_or-drop}
 use borrow.Author.Tests.{ltb-true, ltb-false, leb-true, leb-false}
 use lib.Ieee.{Float, nan, inf, fin, eq, of_bits, binary64}
 use Rattle.std.specs.Prelude.{is_nan}
-use Rattle.model.specs.Numbers.{unusable}
-use Rattle.model.specs.Lists.{total}
+use Rattle.model.specs.Numbers.{at, unusable}
+use Rattle.model.specs.Lists.{part, total}
 
 pub nan_or_low : (x : Float) → (is_nan x || eq x (of_bits binary64 0xfff0000000000000)) ≡ unusable x
 unfolding lib.Ieee.is_nan eq of_bits
@@ -39,6 +39,10 @@ leb_same a b c d f g = go (leb a b) (leb c d) refl refl
     go false false e h = refl
     go true false e h = absurd (omega (arith, f (leb-true a b e), leb-false c d h))
     go false true e h = absurd (omega (arith, g (leb-true c d h), leb-false a b e))
+
+-- element j of a part
+pub at_part : (l : List Float) (start len j : ℕ) → j < len → at (part l start len) j ≡ at l (start + j)
+at_part l start len j h = get_or-take len _ j nan h ∙ get_or-drop start l j nan
 
 pub total_next : (l : List ℕ) (k : ℕ) → k < length l → total (drop k l) ≡ get_or l k 0 + total (drop (k + 1) l)
 total_next l k h = rw (add-one, drop-cons l k 0)
