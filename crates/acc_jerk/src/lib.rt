@@ -121,7 +121,7 @@ pub fn jerk_value(form: Form, b: f64, c: f64, r: f64) -> f64
     }
 }
 
-// A column that holds b and c in one form.
+// A column that holds b and c in one form. Beside `column_table` it stays: both are one `fill`, and what they have in common is that call.
 fn column_jerk(
     t: Tally,
     out: &mut Buffers,

@@ -1,5 +1,5 @@
 // The static library for C and Rust: the functions of copp3_c under their own names, with the same clauses. include/copp3_assembly.h declares them.
-// One slice for each table and each buffer: the C interface needs it.
+// One slice for each table and each buffer: the C interface needs it. A crate is a library or a static library, so the exports stand beside copp3_c's functions.
 #![tactic(auto)]
 
 ghost use Rattle.std.specs.Prelude.{◌≡◌};

@@ -131,7 +131,7 @@ fn jerk_at(station: JerkStation) -> bool
     both(shared, both(back_at(station), ahead_at(station)))
 }
 
-// The jerk rows of all moving stations.
+// The jerk rows of all moving stations. Where a station's numbers begin goes on with each, so a loop carries it: a `scan` is no plainer.
 #[tactic(auto, unfolding(model::specs::Problem::m))]
 fn jerk(rows: JerkRows) -> bool
     ensures { result ≡ finite_bands (over (jerk_rows_at (path_of rows.entry.path) (jerk_of rows.entry.tables)) rows.entry.path.ends.n0 (m (path_of rows.entry.path) + 1)) }

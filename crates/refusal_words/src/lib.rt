@@ -9,7 +9,7 @@ ghost use Rattle.refusal_words.specs.Refusals.{complaint, place, person, refused
 
 use text::Writer;
 
-// What is wrong.
+// What is wrong. The number stays a usize here and below: any number is answered, from the start.
 #[tactic(auto, unfolding(crate::specs::Refusals::complaint))]
 fn complaint(number: usize) -> &'static [u8]
     ensures { result.now ≡ complaint number }
@@ -49,7 +49,7 @@ fn placed(out: &mut Writer, text: &[u8], k: usize)
     out.decimal(k as u64);
 }
 
-// Where to look; k is the refusal's place.
+// Where to look; k is the refusal's place. Any number is answered.
 #[tactic(auto, unfolding(crate::specs::Refusals::place))]
 fn place(out: &mut Writer, number: usize, k: usize)
     ensures { says (place number k) out }
@@ -80,7 +80,7 @@ fn place(out: &mut Writer, number: usize, k: usize)
     }
 }
 
-// Who is to look.
+// Who is to look. Any number is answered.
 #[tactic(auto, unfolding(crate::specs::Refusals::person))]
 fn person(number: usize) -> &'static [u8]
     ensures { result.now ≡ person number }

@@ -24,7 +24,7 @@ struct Piece {
     rest: usize,
 }
 
-// A case that is whole, and where the next one begins.
+// A case that is whole, and where the next one begins. Every whole case agrees or not, and no other field depends on it: a bool says that as plainly as an enum.
 #[derive(Clone, Copy)]
 struct Whole {
     group: u8,
@@ -89,7 +89,7 @@ fn whole_case(s: &[u8], at: usize) -> Option<Whole>
     })
 }
 
-// Replays the whole cases of a piece. Each begins where the last one's own numbers say that it ends.
+// Replays the whole cases of a piece. Each begins where the last one's own numbers say that it ends: the `while let` counts no index, and a `for` has no range to go over.
 fn replay_piece(rt: &impl Print, s: &[u8], before: Tally) -> io::Result<Piece>
     ensures { IfOk result (λ p. p.rest ≤ length s.now) }
 {
