@@ -5,7 +5,7 @@ ghost use Rattle.acc_jerk.specs.Tables.{AccSized};
 use buffers::Path;
 use model::Acceleration;
 
-// A path with tables 0 and 3 to 5, in the lengths that the checks leave.
+// A path with tables 0 and 3 to 5, in the lengths that the checks leave. `Few` is no fact of it: who tests the numbers takes it without.
 #[derive(Clone, Copy)]
 pub struct AccelerationRows<'a> {
     pub path: Path<'a>,

@@ -5,7 +5,7 @@ ghost use Rattle.acc_jerk.specs.Tables.{JerkSized};
 use buffers::Path;
 use model::Jerk;
 
-// A path with tables 1 and 6 to 9, in the lengths that the checks leave.
+// A path with tables 1 and 6 to 9, in the lengths that the checks leave. `Few` is no fact of it, as of AccelerationRows.
 #[derive(Clone, Copy)]
 pub struct JerkRows<'a> {
     pub path: Path<'a>,

@@ -15,10 +15,11 @@ ghost use Rattle.model.specs.Standard.{acceleration_rows, backward_rows, forward
 ghost use Rattle.acc_jerk.specs.Tables.{acc_of, jerk_of, Few, jerk_value, jerk_band};
 ghost use Rattle.buffers.specs.Bounds.{acceleration_room, jerk_room};
 ghost use Rattle.buffers.specs.Buffers.{Wrote, Fills};
-ghost use Rattle.buffers.specs.Lent.{Room};
+ghost use Rattle.buffers.specs.Lent.{Room, RoomFrom};
 ghost use Rattle.buffers.specs.Paths.{path_of};
 
 pub use acceleration::AccelerationRows;
+use buffers::Interval;
 use columns::{column_a, column_b};
 pub use jerk::JerkRows;
 use model::{Buffers, Column, Row, Tally, Term};
@@ -29,32 +30,15 @@ pub fn offset(counts: &[u32], k: usize) -> usize
     requires { (k ≤ length counts.now) × (total counts.now < 2 ^ 64) }
     ensures { result ≡ total (take k counts.now) }
 {
-    counts[..k].iter().map(|count| *count as usize).sum()
+    numbers::total(&counts[..k])
 }
 
-// A column whose numbers stand in a table from `from` on.
-fn column_table(
-    t: Tally,
-    out: &mut Buffers,
-    row: Row,
-    col: Column,
-    table: &[f64],
-    from: usize,
-    count: usize,
-) -> Tally
-    requires { (t.entries + count < 2 ^ 64) × (row.at + count ≤ 2 ^ 32) × (col.at < 2 ^ 32) × (from + count ≤ length table.now) }
-    ensures { Fills t out.old result out.new row.at (λ i. cell col.at (at table.now (from + i))) count }
+// A column that holds these numbers.
+fn column_table(t: Tally, out: &mut Buffers, row: Row, col: Column, numbers: &[f64]) -> Tally
+    requires { RoomFrom t row.at (length numbers.now) × (col.at < 2 ^ 32) }
+    ensures { Fills t out.old result out.new row.at (λ i. cell col.at (at numbers.now i)) (length numbers.now) }
 {
-    buffers::fill(
-        t,
-        out,
-        row,
-        count,
-        |i| Term {
-            col,
-            v: table[from + i],
-        },
-    )
+    buffers::fill(t, out, row, numbers.len(), |i| Term { col, v: numbers[i] })
 }
 
 // The rows of station k, whose numbers stand in the tables from `from` on.
@@ -70,16 +54,18 @@ fn acceleration_at(
 {
     let tables = rows.tables;
     let count = tables.rows[k] as usize;
+    let end = from + count;
     let row = t.rows;
     let a = column_a(k);
     let b = column_b(rows.path.grid, k);
-    let u = column_table(t, out, row, a, tables.a, from, count);
-    let u = column_table(u, out, row, b, tables.b, from, count);
-    buffers::fill_right(u, out, count, |i| tables.max[from + i])
+    let u = column_table(t, out, row, a, &tables.a[from..end]);
+    let u = column_table(u, out, row, b, &tables.b[from..end]);
+    let max = &tables.max[from..end];
+    buffers::fill_right(u, out, count, |i| max[i])
 }
 
 // The acceleration rows of the stations that move on both sides.
-#[tactic(auto, unfolding(model::specs::Problem::m))]
+#[tactic(auto, unfolding(model::specs::Problem::m, model::specs::Problem::stop))]
 pub fn clarabel_2order_constraint_topp3(
     t: Tally,
     out: &mut Buffers,
@@ -89,11 +75,10 @@ pub fn clarabel_2order_constraint_topp3(
     ensures { Wrote t out.old result out.new (list (acceleration_rows (path_of rows.entry.path) (acc_of rows.entry.tables)) (rows.entry.path.ends.n0 + 1) (m (path_of rows.entry.path) - 1)) (acceleration_room (length rows.entry.path.grid.now)) }
 {
     let first = rows.path.ends.n0 + 1;
-    let count = rows.path.moving() - 1;
     let mut from = offset(rows.tables.rows, first);
     let mut u = t;
-    for i in 0..count {
-        let k = first + i;
+    // Over the stations' numbers: a column is told by its station's, and where its part of the tables begins goes on with it, so no chain is plainer.
+    for k in first..rows.path.stop() {
         u = acceleration_at(u, out, rows, k, from);
         from = from + rows.tables.rows[k] as usize;
     }
@@ -131,12 +116,11 @@ fn column_jerk(
     form: Form,
     r: f64,
 ) -> Tally
-    requires { (t.entries + get_or station.rows.tables.rows.now station.k 0 < 2 ^ 64) × (row.at + get_or station.rows.tables.rows.now station.k 0 ≤ 2 ^ 32) × (col.at < 2 ^ 32) }
+    requires { RoomFrom t row.at (get_or station.rows.tables.rows.now station.k 0) × (col.at < 2 ^ 32) }
     ensures { Fills t out.old result out.new row.at (λ i. cell col.at (jerk_value form (at station.entry.rows.tables.b.now (station.entry.from + i)) (at station.entry.rows.tables.c.now (station.entry.from + i)) r)) (get_or station.entry.rows.tables.rows.now station.entry.k 0) }
 {
-    let from = station.from;
-    let b = station.rows.tables.b;
-    let c = station.rows.tables.c;
+    let b = station.part(station.rows.tables.b);
+    let c = station.part(station.rows.tables.c);
     buffers::fill(
         t,
         out,
@@ -144,36 +128,35 @@ fn column_jerk(
         station.count(),
         |i| Term {
             col,
-            v: jerk_value(form, b[from + i], c[from + i], r),
+            v: jerk_value(form, b[i], c[i], r),
         },
     )
 }
 
-// The rows of a station on the interval from station j on: their forms at station j and at the next.
+// The rows of a station on an interval: their forms at its first station and at the next.
 fn group(
     t: Tally,
     out: &mut Buffers,
     station: JerkStation,
-    j: usize,
+    interval: Interval,
     near: Form,
     far: Form,
 ) -> Tally
-    requires { Room t (get_or station.rows.tables.rows.now station.k 0) × (j + 1 < length station.rows.path.grid.now) }
-    ensures { Wrote t out.old result out.new (jerk_band (path_of station.entry.rows.path) (jerk_of station.entry.rows.tables) station.entry.k j near far ∷ []) (get_or station.entry.rows.tables.rows.now station.entry.k 0) }
+    requires { Room t (get_or station.rows.tables.rows.now station.k 0) }
+    ensures { Wrote t out.old result out.new (jerk_band (path_of interval.entry.path) (jerk_of station.entry.rows.tables) station.entry.k interval.entry.k near far ∷ []) (get_or station.entry.rows.tables.rows.now station.entry.k 0) }
 {
     let tables = station.rows.tables;
-    let grid = station.rows.path.grid;
-    let from = station.from;
-    let count = station.count();
+    let grid = interval.path.grid;
     let row = t.rows;
-    let r = 1.0 / buffers::spacing(grid, j);
+    let r = 1.0 / interval.spacing();
     let a = column_a(station.k);
-    let b = column_b(grid, j);
-    let next = column_b(grid, j + 1);
-    let u = column_table(t, out, row, a, tables.a, from, count);
+    let b = column_b(grid, interval.k);
+    let next = column_b(grid, interval.k + 1);
+    let u = column_table(t, out, row, a, station.part(tables.a));
     let u = column_jerk(u, out, row, b, station, near, r);
     let u = column_jerk(u, out, row, next, station, far, r);
-    buffers::fill_right(u, out, count, |i| tables.max[from + i])
+    let max = station.part(tables.max);
+    buffers::fill_right(u, out, station.count(), |i| max[i])
 }
 
 // The backward group of a station, unless it is the first.
@@ -181,10 +164,19 @@ fn backward(t: Tally, out: &mut Buffers, station: JerkStation) -> Tally
     requires { Room t (get_or station.rows.tables.rows.now station.k 0) }
     ensures { Wrote t out.old result out.new (given (ltb station.entry.rows.path.ends.n0 station.entry.k) (backward_rows (path_of station.entry.rows.path) (jerk_of station.entry.rows.tables) station.entry.k ∷ [])) (get_or station.entry.rows.tables.rows.now station.entry.k 0) }
 {
-    if station.k <= station.rows.path.ends.n0 {
+    let path = station.rows.path;
+    if station.k <= path.ends.n0 {
         return t;
     }
-    group(t, out, station, station.k - 1, Form::Back, Form::Here)
+    let k = station.k - 1;
+    group(
+        t,
+        out,
+        station,
+        Interval { path, k },
+        Form::Back,
+        Form::Here,
+    )
 }
 
 // The forward group of a station, unless it is the last.
@@ -192,10 +184,19 @@ fn forward(t: Tally, out: &mut Buffers, station: JerkStation) -> Tally
     requires { Room t (get_or station.rows.tables.rows.now station.k 0) }
     ensures { Wrote t out.old result out.new (given (ltb station.entry.k (stop (path_of station.entry.rows.path))) (forward_rows (path_of station.entry.rows.path) (jerk_of station.entry.rows.tables) station.entry.k ∷ [])) (get_or station.entry.rows.tables.rows.now station.entry.k 0) }
 {
-    if station.rows.path.stop() <= station.k {
+    let path = station.rows.path;
+    let k = station.k;
+    if path.stop() <= k {
         return t;
     }
-    group(t, out, station, station.k, Form::Ahead, Form::Next)
+    group(
+        t,
+        out,
+        station,
+        Interval { path, k },
+        Form::Ahead,
+        Form::Next,
+    )
 }
 
 // Both groups of a station.
@@ -208,17 +209,16 @@ fn jerk_at(t: Tally, out: &mut Buffers, station: JerkStation) -> Tally
 }
 
 // The jerk rows of all moving stations.
-#[tactic(auto, unfolding(model::specs::Problem::m))]
+#[tactic(auto, unfolding(model::specs::Problem::m, model::specs::Problem::stop))]
 pub fn clarabel_3order_constraint_topp3(t: Tally, out: &mut Buffers, rows: JerkRows) -> Tally
     requires { Room t (jerk_room (length rows.path.grid.now)) × Few rows.tables.rows.now }
     ensures { Wrote t out.old result out.new (over (jerk_rows_at (path_of rows.entry.path) (jerk_of rows.entry.tables)) rows.entry.path.ends.n0 (m (path_of rows.entry.path) + 1)) (jerk_room (length rows.entry.path.grid.now)) }
 {
     let first = rows.path.ends.n0;
-    let count = rows.path.moving() + 1;
     let mut from = offset(rows.tables.rows, first);
     let mut u = t;
-    for i in 0..count {
-        let k = first + i;
+    // Over the stations' numbers: a JerkStation is told by its own, and where its part of the tables begins goes on with it, so no chain is plainer.
+    for k in first..rows.path.stop() + 1 {
         u = jerk_at(u, out, JerkStation { rows, k, from });
         from = from + rows.tables.rows[k] as usize;
     }

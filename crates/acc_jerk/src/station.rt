@@ -1,7 +1,7 @@
 // The jerk rows of one station.
 
 ghost use Rattle.std.specs.Prelude.{◌≡◌, ◌+◌, ◌<◌, ◌≤◌, length, get_or, take};
-ghost use Rattle.model.specs.Lists.{total};
+ghost use Rattle.model.specs.Lists.{total, part};
 
 use crate::JerkRows;
 
@@ -20,5 +20,13 @@ impl<'a> JerkStation<'a> {
         ensures { result ≡ get_or self.entry.rows.tables.rows.now self.entry.k 0 }
     {
         self.rows.tables.rows[self.k] as usize
+    }
+
+    // Its part of one of the tables.
+    pub fn part(self, table: &'a [f64]) -> &'a [f64]
+        requires { length table.now ≡ length self.rows.tables.a.now }
+        ensures { result.now ≡ part table.now self.entry.from (get_or self.entry.rows.tables.rows.now self.entry.k 0) }
+    {
+        &table[self.from..self.from + self.count()]
     }
 }

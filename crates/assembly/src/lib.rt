@@ -13,7 +13,7 @@ ghost use Rattle.model.specs.Lent.{problem_of, buffers_of, SameBuffers};
 use model::{Answer, Buffers, FourCounts, Problem, Rule, Verdict};
 use passes::{every_number, write};
 
-// 19, then 28 for an index so long, then 20, of the four counts, the number of objectives and of whether every number is finite.
+// 19, then 28 for an index so long, then 20, of the four counts, the number of objectives and of whether every number is finite: a test, with which no value goes.
 #[tactic(auto, using(checks::proofs::Chain::then_ok, checks::proofs::Chain::then_err))]
 fn room_and_finite(
     counts: FourCounts,
@@ -45,7 +45,7 @@ fn lengths_of(out: &Buffers) -> [usize; 7]
     ]
 }
 
-// Every refusal, of buffers with these lengths and an index so long.
+// Every refusal, of buffers with these lengths and an index so long. The index comes apart from the seven lengths of refusal 19: it has a refusal of its own.
 fn verdict(problem: &Problem, lengths: [usize; 7], long: usize) -> Verdict
     ensures { result ≡ verdict_of (problem_of problem.now) lengths long }
 {
@@ -63,10 +63,5 @@ pub fn assemble(problem: &Problem, out: &mut Buffers) -> Answer
     let lengths = lengths_of(out);
     verdict(problem, lengths, out.index.len())?;
     let t = write(problem, out);
-    Ok(FourCounts {
-        entries: t.entries,
-        rows: t.rows.at,
-        cones: t.cones,
-        columns: t.columns.at,
-    })
+    Ok(FourCounts::from(t))
 }

@@ -8,10 +8,10 @@ use native.Mathlib.Omega.{arith}
 use native.Mathlib.Nat.{add-zero, zero-add, add-suc}
 use lib.Ieee.{Float}
 use Rattle.model.specs.Lists.{list}
-use Rattle.model.specs.Program.{Cone, Block, Cell, nothing, dimension, entries_from, right_sides}
+use Rattle.model.specs.Program.{Cone, Block, Cell, nothing, dimension}
 use Rattle.model.specs.declared.Tally.{Tally}
 use Rattle.model.specs.declared.Buffers.{Buffers}
-use Rattle.buffers.specs.Buffers.{emit, bands_of, chunk, Closed, ClosedList, Chunk, Lays, State, Built, Builds, Costs, FillsCost, PutsCost}
+use Rattle.buffers.specs.Buffers.{emit, chunk, Closed, ClosedList, Chunk, Lays, State, state_of, Built, Builds, Costs, FillsCost, PutsCost}
 use Rattle.buffers.proofs.Laws.{turns_more, cost_more, emit_none, lays_as, same_refl}
 
 pub turns_next : {t : Tally} {b : Buffers} {f : ℕ → Cone} {n : ℕ} {t' : Tally} {b' : Buffers} {i : ℕ} {t'' : Tally} {b'' : Buffers}
@@ -42,35 +42,79 @@ pub built_cost : {s s' : State} {cs : List Cone} {xs zs : List Float} {ys : List
     → Built s s' (record { cones = cs; cost = xs; charges = ys }) b → xs ≡ zs → Built s s' (record { cones = cs; cost = zs; charges = ys }) b
 built_cost {s} {s'} {cs} {ys} {b} p e = subst (λ (l : List Float). Built s s' (record { cones = cs; cost = l; charges = ys }) b) e p
 
--- a block keeps the lengths
+-- whatever is laid over the buffers, they keep their lengths
+module _ (a : Chunk) (s : State) where
+  emit_rows : length (emit a s).rows ≡ length s.rows
+  unfolding emit
+  emit_rows = length-sets s.rows s.tally.entries (map (λ e. e.row) a.entries)
+
+  emit_columns : length (emit a s).columns ≡ length s.columns
+  unfolding emit
+  emit_columns = length-sets s.columns s.tally.entries (map (λ e. e.column) a.entries)
+
+  emit_values : length (emit a s).values ≡ length s.values
+  unfolding emit
+  emit_values = length-sets s.values s.tally.entries (map (λ e. e.value) a.entries)
+
+  emit_right : length (emit a s).right ≡ length s.right
+  unfolding emit
+  emit_right = length-sets s.right s.tally.rows.at a.right
+
+  emit_kinds : length (emit a s).kinds ≡ length s.kinds
+  unfolding emit
+  emit_kinds = length-sets s.kinds s.tally.cones (map (λ c. c.kind) a.cones)
+
+  emit_dimensions : length (emit a s).dimensions ≡ length s.dimensions
+  unfolding emit
+  emit_dimensions = length-sets s.dimensions s.tally.cones (map dimension a.cones)
+
+  emit_costs : length (emit a s).cost ≡ length s.cost
+  unfolding emit
+  emit_costs = length-sets s.cost s.tally.columns.at a.cost
+
 module _ {s s' : State} {x : Block} {b : ℕ} (p : Built s s' x b) where
   pub built_rows : length s'.rows ≡ length s.rows
-  unfolding emit
-  built_rows = ap (λ u. length u.rows) p.says ∙ length-sets s.rows s.tally.entries (map (λ e. e.row) (entries_from s.tally.rows.at (bands_of x.cones)))
+  built_rows = ap (λ (u : State). length u.rows) p.says ∙ emit_rows _ s
 
   pub built_columns : length s'.columns ≡ length s.columns
-  unfolding emit
-  built_columns = ap (λ u. length u.columns) p.says ∙ length-sets s.columns s.tally.entries (map (λ e. e.column) (entries_from s.tally.rows.at (bands_of x.cones)))
+  built_columns = ap (λ (u : State). length u.columns) p.says ∙ emit_columns _ s
 
   pub built_values : length s'.values ≡ length s.values
-  unfolding emit
-  built_values = ap (λ u. length u.values) p.says ∙ length-sets s.values s.tally.entries (map (λ e. e.value) (entries_from s.tally.rows.at (bands_of x.cones)))
+  built_values = ap (λ (u : State). length u.values) p.says ∙ emit_values _ s
 
   pub built_right : length s'.right ≡ length s.right
-  unfolding emit
-  built_right = ap (λ u. length u.right) p.says ∙ length-sets s.right s.tally.rows.at (right_sides (bands_of x.cones))
+  built_right = ap (λ (u : State). length u.right) p.says ∙ emit_right _ s
 
   pub built_kinds : length s'.kinds ≡ length s.kinds
-  unfolding emit
-  built_kinds = ap (λ u. length u.kinds) p.says ∙ length-sets s.kinds s.tally.cones (map (λ c. c.kind) x.cones)
+  built_kinds = ap (λ (u : State). length u.kinds) p.says ∙ emit_kinds _ s
 
   pub built_dimensions : length s'.dimensions ≡ length s.dimensions
-  unfolding emit
-  built_dimensions = ap (λ u. length u.dimensions) p.says ∙ length-sets s.dimensions s.tally.cones (map dimension x.cones)
+  built_dimensions = ap (λ (u : State). length u.dimensions) p.says ∙ emit_dimensions _ s
 
   pub built_costs : length s'.cost ≡ length s.cost
-  unfolding emit
-  built_costs = ap (λ u. length u.cost) p.says ∙ length-sets s.cost s.tally.columns.at x.cost
+  built_costs = ap (λ (u : State). length u.cost) p.says ∙ emit_costs _ s
+
+module _ {t t' : Tally} {b b' : Buffers} {a : Chunk} (p : Lays t b t' b' a) where
+  pub lays_rows : length b'.rows.now ≡ length b.rows.now
+  lays_rows = ap (λ (u : State). length u.rows) p.says ∙ emit_rows a (state_of t b)
+
+  pub lays_columns : length b'.columns.now ≡ length b.columns.now
+  lays_columns = ap (λ (u : State). length u.columns) p.says ∙ emit_columns a (state_of t b)
+
+  pub lays_values : length b'.values.now ≡ length b.values.now
+  lays_values = ap (λ (u : State). length u.values) p.says ∙ emit_values a (state_of t b)
+
+  pub lays_right : length b'.right.now ≡ length b.right.now
+  lays_right = ap (λ (u : State). length u.right) p.says ∙ emit_right a (state_of t b)
+
+  pub lays_kinds : length b'.kinds.now ≡ length b.kinds.now
+  lays_kinds = ap (λ (u : State). length u.kinds) p.says ∙ emit_kinds a (state_of t b)
+
+  pub lays_dimensions : length b'.dimensions.now ≡ length b.dimensions.now
+  lays_dimensions = ap (λ (u : State). length u.dimensions) p.says ∙ emit_dimensions a (state_of t b)
+
+  pub lays_costs : length b'.cost.now ≡ length b.cost.now
+  lays_costs = ap (λ (u : State). length u.cost) p.says ∙ emit_costs a (state_of t b)
 
 -- the same of the buffers that were lent
 pub builds_skip : {t : Tally} {b : Buffers} {n : ℕ} → Builds t b t b nothing n
@@ -79,33 +123,3 @@ builds_skip {t} {b} = record { same = same_refl b; index = refl; built = built_s
 pub builds_cost : {t : Tally} {b : Buffers} {t' : Tally} {b' : Buffers} {cs : List Cone} {xs zs : List Float} {ys : List Cell} {n : ℕ}
     → Builds t b t' b' (record { cones = cs; cost = xs; charges = ys }) n → xs ≡ zs → Builds t b t' b' (record { cones = cs; cost = zs; charges = ys }) n
 builds_cost p e = record { same = p.same; index = p.index; built = built_cost p.built e }
-
--- whatever is laid over the buffers, they keep their lengths
-module _ {t t' : Tally} {b b' : Buffers} {a : Chunk} (p : Lays t b t' b' a) where
-  pub lays_rows : length b'.rows.now ≡ length b.rows.now
-  unfolding emit
-  lays_rows = ap (λ (u : State). length u.rows) p.says ∙ length-sets b.rows.now t.entries (map (λ e. e.row) a.entries)
-
-  pub lays_columns : length b'.columns.now ≡ length b.columns.now
-  unfolding emit
-  lays_columns = ap (λ (u : State). length u.columns) p.says ∙ length-sets b.columns.now t.entries (map (λ e. e.column) a.entries)
-
-  pub lays_values : length b'.values.now ≡ length b.values.now
-  unfolding emit
-  lays_values = ap (λ (u : State). length u.values) p.says ∙ length-sets b.values.now t.entries (map (λ e. e.value) a.entries)
-
-  pub lays_right : length b'.right.now ≡ length b.right.now
-  unfolding emit
-  lays_right = ap (λ (u : State). length u.right) p.says ∙ length-sets b.right.now t.rows.at a.right
-
-  pub lays_kinds : length b'.kinds.now ≡ length b.kinds.now
-  unfolding emit
-  lays_kinds = ap (λ (u : State). length u.kinds) p.says ∙ length-sets b.kinds.now t.cones (map (λ c. c.kind) a.cones)
-
-  pub lays_dimensions : length b'.dimensions.now ≡ length b.dimensions.now
-  unfolding emit
-  lays_dimensions = ap (λ (u : State). length u.dimensions) p.says ∙ length-sets b.dimensions.now t.cones (map dimension a.cones)
-
-  pub lays_cost : length b'.cost.now ≡ length b.cost.now
-  unfolding emit
-  lays_cost = ap (λ (u : State). length u.cost) p.says ∙ length-sets b.cost.now t.columns.at a.cost

@@ -15,12 +15,12 @@ use Rattle.model.specs.Lists.{list, over, joined}
 use Rattle.model.specs.Program.{Cell, cell, Band, band, Cone, cone, Entry, entry, dimension, entries_from, right_sides}
 use Rattle.model.specs.Assembled.{all_finite}
 use Rattle.model.proofs.Shape.{heights, right_heights, entries_append, right_append}
-use Rattle.model.proofs.Sums.{joined-append}
+use Rattle.model.proofs.Sums.{joined-append, length_list}
 use Rattle.model.specs.Lent.{SameBuffers}
 use Rattle.model.specs.declared.Tally.{Tally}
 use Rattle.model.specs.declared.Buffers.{Buffers}
 use Rattle.model.specs.declared.Term.{Term}
-use Rattle.buffers.specs.Buffers.{Chunk, chunk, none, join, bands_of, of_bands, of_cones, State, state_of, tally_of, emit, Lays, Fills, Puts, FillsRight, PutsRight, Columns, Wrote, Overs, Lists, PutsCone, Closed, ClosedList, Costs, PutsCost, FillsCost, Builds}
+use Rattle.buffers.specs.Buffers.{Chunk, chunk, none, join, bands_of, of_bands, of_cones, State, state, state_of, tally_of, moved, emit, Lays, Fills, Puts, FillsRight, PutsRight, Columns, Wrote, Overs, Lists, PutsCone, Closed, ClosedList, Costs, PutsCost, FillsCost, Builds}
 use Rattle.buffers.specs.Lent.{constant_cells}
 
 -- ---- lists
@@ -38,6 +38,14 @@ module _ {A : Type 0} where
   pub over_snoc : (f : ℕ → List A) (k c : ℕ) → over f k (suc c) ≡ over f k c ++ f (k + c)
   over_snoc f k zero = simp (add-zero, append-nil)
   over_snoc f k (suc c) = ap (λ (x : List A). f k ++ x) (over_snoc f (suc k) c) ∙ simp (append_assoc, suc-add, add-suc)
+
+-- a loop that stores one a turn, from a place on
+module _ {A : Type 0} (l : List A) (at : ℕ) (f : ℕ → A) (i : ℕ) where
+  pub stored_more : {l' l'' : List A} {x : A} → l' ≡ sets l at (list f 0 i) → l'' ≡ set l' (at + i) x → x ≡ f i → l'' ≡ sets l at (list f 0 (i + 1))
+  stored_more p q e = rw (add-one, list_snoc f 0 i, zero-add, sets-append l at (list f 0 i) (f i ∷ []), length_list f 0 i, ← p, ← e) q
+
+  pub stored_all : {l' : List A} {m : ℕ} → l' ≡ sets l at (list f 0 i) → i ≤ m → m ≤ i → l' ≡ sets l at (list f 0 m)
+  stored_all {m} p h g = let e : m ≡ i = omega arith in rw e p
 
 -- ---- flags
 
@@ -123,88 +131,58 @@ same_then p q =
 
 -- ---- the leaves
 
+-- a chunk is laid over the buffers where each holds what it held, with the chunk's part from the tally's place on
+lays_of : {b b' : Buffers} {t t' : Tally} (a : Chunk)
+    → SameBuffers b b'
+    → b'.rows.now ≡ sets b.rows.now t.entries (map (λ e. e.row) a.entries)
+    → b'.columns.now ≡ sets b.columns.now t.entries (map (λ e. e.column) a.entries)
+    → b'.values.now ≡ sets b.values.now t.entries (map (λ e. e.value) a.entries)
+    → b'.right.now ≡ sets b.right.now t.rows.at a.right
+    → b'.kinds.now ≡ sets b.kinds.now t.cones (map (λ c. c.kind) a.cones)
+    → b'.dimensions.now ≡ sets b.dimensions.now t.cones (map dimension a.cones)
+    → b'.cost.now ≡ sets b.cost.now t.columns.at a.cost
+    → b'.index.now ≡ b.index.now → t' ≡ moved a t → Lays t b t' b' a
+unfolding emit
+lays_of a same pr pc pv ph pk pd pq px e = record { same = same; index = px; says = λ i. state (pr i) (pc i) (pv i) (ph i) (pk i) (pd i) (pq i) (e i) }
+
 pub one_entry : {b b' : Buffers} {t : Tally} {r c : ℕ} {v : Float}
     → SameBuffers b b' → b'.rows.now ≡ set b.rows.now t.entries r → b'.columns.now ≡ set b.columns.now t.entries c → b'.values.now ≡ set b.values.now t.entries v
     → b'.right.now ≡ b.right.now → b'.kinds.now ≡ b.kinds.now → b'.dimensions.now ≡ b.dimensions.now → b'.cost.now ≡ b.cost.now → b'.index.now ≡ b.index.now
     → Puts t b (record { entries = t.entries + 1; rows = t.rows; cones = t.cones; columns = t.columns; owner = t.owner }) b' (entry r (cell c v))
-unfolding emit
-one_entry {t} same pr pc pv ph pk pd pq px =
-    record {
-      lays = record {
-        same = same;
-        index = px;
-        says = λ i. record {
-          rows = pr i;
-          columns = pc i;
-          values = pv i;
-          right = ph i;
-          kinds = pk i;
-          dimensions = pd i;
-          cost = pq i;
-          tally = tally_of (t.entries + 1) (sym (add-zero t.rows.at) i) (sym (add-zero t.cones) i) (sym (add-zero t.columns.at) i) t.owner;
-        };
-      };
-      entries = refl;
-      rows = refl;
-      cones = refl;
-      columns = refl;
-    }
+one_entry {t} {r} {c} {v} same pr pc pv ph pk pd pq px =
+    record { lays = lays_of (chunk (entry r (cell c v) ∷ []) [] [] []) same pr pc pv ph pk pd pq px (λ i. tally_of (t.entries + 1) (sym (add-zero t.rows.at) i) (sym (add-zero t.cones) i) (sym (add-zero t.columns.at) i) t.owner); entries = refl; rows = refl; cones = refl; columns = refl }
 
+-- right sides, and costs: so many stored from the tally's place on
+pub right_filled : {b b' : Buffers} {t : Tally} {f : ℕ → Float} {m : ℕ}
+    → SameBuffers b b' → b'.rows.now ≡ b.rows.now → b'.columns.now ≡ b.columns.now → b'.values.now ≡ b.values.now
+    → b'.right.now ≡ sets b.right.now t.rows.at (list f 0 m) → b'.kinds.now ≡ b.kinds.now → b'.dimensions.now ≡ b.dimensions.now → b'.cost.now ≡ b.cost.now → b'.index.now ≡ b.index.now
+    → FillsRight t b (record { entries = t.entries; rows = record { at = t.rows.at + m }; cones = t.cones; columns = t.columns; owner = t.owner }) b' f m
+right_filled {t} {f} {m} same pr pc pv ph pk pd pq px =
+    record { lays = lays_of (chunk [] (list f 0 m) [] []) same pr pc pv ph pk pd pq px (λ i. tally_of (sym (add-zero t.entries) i) (t.rows.at + sym (length_list f 0 m) i) (sym (add-zero t.cones) i) (sym (add-zero t.columns.at) i) t.owner); entries = refl; rows = refl; cones = refl; columns = refl }
+
+pub cost_filled : {b b' : Buffers} {t : Tally} {f : ℕ → Float} {m : ℕ}
+    → SameBuffers b b' → b'.rows.now ≡ b.rows.now → b'.columns.now ≡ b.columns.now → b'.values.now ≡ b.values.now
+    → b'.right.now ≡ b.right.now → b'.kinds.now ≡ b.kinds.now → b'.dimensions.now ≡ b.dimensions.now → b'.cost.now ≡ sets b.cost.now t.columns.at (list f 0 m) → b'.index.now ≡ b.index.now
+    → FillsCost t b (record { entries = t.entries; rows = t.rows; cones = t.cones; columns = record { at = t.columns.at + m }; owner = t.owner }) b' f 0 m
+cost_filled {t} {f} {m} same pr pc pv ph pk pd pq px =
+    record { costs = record { lays = lays_of (chunk [] [] [] (list f 0 m)) same pr pc pv ph pk pd pq px (λ i. tally_of (sym (add-zero t.entries) i) (sym (add-zero t.rows.at) i) (sym (add-zero t.cones) i) (t.columns.at + sym (length_list f 0 m) i) t.owner) }; entries = refl; rows = refl; cones = refl; columns = refl }
+
+-- and one
 pub one_right : {b b' : Buffers} {t : Tally} {v : Float}
     → SameBuffers b b' → b'.rows.now ≡ b.rows.now → b'.columns.now ≡ b.columns.now → b'.values.now ≡ b.values.now
     → b'.right.now ≡ set b.right.now t.rows.at v → b'.kinds.now ≡ b.kinds.now → b'.dimensions.now ≡ b.dimensions.now → b'.cost.now ≡ b.cost.now → b'.index.now ≡ b.index.now
     → PutsRight t b (record { entries = t.entries; rows = record { at = t.rows.at + 1 }; cones = t.cones; columns = t.columns; owner = t.owner }) b' v
-unfolding emit
-one_right {t} same pr pc pv ph pk pd pq px =
-    record {
-      lays = record {
-        same = same;
-        index = px;
-        says = λ i. record {
-          rows = pr i;
-          columns = pc i;
-          values = pv i;
-          right = ph i;
-          kinds = pk i;
-          dimensions = pd i;
-          cost = pq i;
-          tally = tally_of (sym (add-zero t.entries) i) (t.rows.at + 1) (sym (add-zero t.cones) i) (sym (add-zero t.columns.at) i) t.owner;
-        };
-      };
-      entries = refl;
-      rows = refl;
-      cones = refl;
-      columns = refl;
-    }
+one_right {v} same pr pc pv ph pk pd pq px =
+    let p = right_filled {f = λ i. v} {m = 1} same pr pc pv ph pk pd pq px in
+    record { lays = p.lays; entries = p.entries; rows = p.rows; cones = p.cones; columns = p.columns }
 
 pub one_cost : {b b' : Buffers} {t : Tally} {v : Float}
     → SameBuffers b b' → b'.rows.now ≡ b.rows.now → b'.columns.now ≡ b.columns.now → b'.values.now ≡ b.values.now
     → b'.right.now ≡ b.right.now → b'.kinds.now ≡ b.kinds.now → b'.dimensions.now ≡ b.dimensions.now → b'.cost.now ≡ set b.cost.now t.columns.at v → b'.index.now ≡ b.index.now
     → PutsCost t b (record { entries = t.entries; rows = t.rows; cones = t.cones; columns = record { at = t.columns.at + 1 }; owner = t.owner }) b' v
-unfolding emit
-one_cost {t} same pr pc pv ph pk pd pq px =
-    record {
-      costs = record {
-        lays = record {
-          same = same;
-          index = px;
-          says = λ i. record {
-            rows = pr i;
-            columns = pc i;
-            values = pv i;
-            right = ph i;
-            kinds = pk i;
-            dimensions = pd i;
-            cost = pq i;
-            tally = tally_of (sym (add-zero t.entries) i) (sym (add-zero t.rows.at) i) (sym (add-zero t.cones) i) (t.columns.at + 1) t.owner;
-          };
-        };
-      };
-      entries = refl;
-      rows = refl;
-      cones = refl;
-      columns = refl;
-    }
+one_cost {v} same pr pc pv ph pk pd pq px =
+    let p = cost_filled {f = λ i. v} {m = 1} same pr pc pv ph pk pd pq px in
+    record { costs = p.costs; entries = p.entries; rows = p.rows; cones = p.cones; columns = p.columns }
 
 -- ---- chunks after chunks
 

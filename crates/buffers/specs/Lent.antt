@@ -12,6 +12,10 @@ Room t b = (t.entries + 5 * b < 2 ^ 64) × (t.rows.at + b ≤ 2 ^ 32)
 abbrev pub RoomAll : Tally → ℕ → Type 0
 RoomAll t b = (t.entries + 5 * b < 2 ^ 64) × (t.rows.at + b ≤ 2 ^ 32) × (t.cones + b < 2 ^ 64) × (t.columns.at + b ≤ 2 ^ 32)
 
+-- room for n entries, one in a row, from row r on
+abbrev pub RoomFrom : Tally → ℕ → ℕ → Type 0
+RoomFrom t r n = (t.entries + n < 2 ^ 64) × (r + n ≤ 2 ^ 32)
+
 abbrev pub term : Term → Cell
 term p = cell p.col.at p.v
 

@@ -1,7 +1,10 @@
 // The writers that every stage uses: entries, rows, cones and cost, at the tally's places. A store past a buffer's end is left out.
+// The tally and the buffers are two parameters of each writer here and in every stage: document 01 names the by-value tally, and a struct of both would lend the tally too.
+// The loops of the stages are a `for` whose turn is one call. A function that took the call would ask, turn by turn, for room in the tally and how far it moves, and would stand twice, for rows and for cones: no plainer.
 
 #![tactic(auto)]
 
+mod interval;
 mod path;
 
 ghost use Rattle.std.specs.Prelude.{◌≡◌, [], ◌∷◌, ◌+◌, ◌-◌, ◌*◌, ◌^◌, ◌<◌, ◌≤◌, ℕ, Float, min, length, set};
@@ -10,11 +13,12 @@ ghost use Rattle.model.specs.Numbers.{at, ◌⊖◌, ◌⊗◌};
 ghost use Rattle.model.specs.Lists.{list};
 ghost use Rattle.model.specs.Program.{Cell, row, entry, positive_row, kind_number};
 ghost use Rattle.buffers.specs.Buffers.{Puts, Fills, PutsRight, FillsRight, Wrote, PutsCone, PutsCost, FillsCost, Columns};
-ghost use Rattle.buffers.specs.Lent.{Room, term, Narrow, row_of, constant_cells};
+ghost use Rattle.buffers.specs.Lent.{Room, RoomFrom, term, Narrow, row_of, constant_cells};
 ghost use Rattle.buffers.specs.Owned.{PutsOwner};
 
+pub use interval::Interval;
 use model::{Buffers, Column, ConeKind, Ends, Row, Tally, Term};
-pub use path::Path;
+pub use path::{Path, path_in};
 
 // The one place that knows the width of a stored number.
 fn narrow(x: usize) -> u32
@@ -33,15 +37,16 @@ fn store<T: Copy>(xs: &mut [T], at: usize, x: T)
     }
 }
 
-// Four numbers of the index, one after another.
-fn store_four(index: &mut [usize], at: usize, four: [usize; 4])
-    requires { at + 4 < 2 ^ 64 }
-    ensures { index.new ≡ sets index.old at four }
+// count stores from a place on.
+fn store_each<T: Copy, F: Fn(usize) -> T>(xs: &mut [T], at: usize, count: usize, value_at: F)
+    requires room { at + count < 2 ^ 64 }
+    requires callable { (i : ℕ) → i < count → F.pre value_at i }
+    ensures { (f : ℕ → T) → ((i : ℕ) (x : T) → i < count → F.post value_at i x → x ≡ f i) → xs.new ≡ sets xs.old at (list f 0 count) }
 {
-    store(index, at, four[0]);
-    store(index, at + 1, four[1]);
-    store(index, at + 2, four[2]);
-    store(index, at + 3, four[3]);
+    // Over numbers: the value is told by its number, and the store's place is one that need not be in the slice.
+    for i in 0..count {
+        store(xs, at + i, value_at(i));
+    }
 }
 
 // The index of the owner being written, whose block began at tally t and ended at u: the firsts, then the lengths. Then the next owner is written.
@@ -49,16 +54,17 @@ pub fn put_owner(t: Tally, u: Tally, out: &mut Buffers) -> Tally
     requires { (t.entries ≤ u.entries) × (t.rows.at ≤ u.rows.at) × (t.cones ≤ u.cones) × (t.columns.at ≤ u.columns.at) × (t.owner < 2 ^ 60) }
     ensures { PutsOwner t u out.old result out.new }
 {
-    let at = 8 * t.owner;
-    let firsts = [t.entries, t.rows.at, t.cones, t.columns.at];
-    store_four(out.index, at, firsts);
-    let lengths = [
+    let eight = [
+        t.entries,
+        t.rows.at,
+        t.cones,
+        t.columns.at,
         u.entries - t.entries,
         u.rows.at - t.rows.at,
         u.cones - t.cones,
         u.columns.at - t.columns.at,
     ];
-    store_four(out.index, at + 4, lengths);
+    store_each(out.index, 8 * t.owner, 8, |i| eight[i]);
     Tally {
         owner: t.owner + 1,
         ..u
@@ -80,7 +86,7 @@ pub fn put(t: Tally, out: &mut Buffers, row: Row, p: Term) -> Tally
     }
 }
 
-// One right side more.
+// One right side more. Beside put_cost it stays: what the two have in common is `store`.
 pub fn put_right(t: Tally, out: &mut Buffers, x: f64) -> Tally
     requires { t.rows.at + 1 < 2 ^ 64 }
     ensures { PutsRight t out.old result out.new x }
@@ -107,18 +113,7 @@ pub fn close_cone(t: Tally, out: &mut Buffers, kind: ConeKind, first: Row) -> Ta
     requires { (t.cones + 1 < 2 ^ 64) × (first.at ≤ t.rows.at) × (t.rows.at ≤ 2 ^ 32) × (t.rows.at < first.at + 2 ^ 32) }
     ensures { PutsCone t out.old result out.new (kind_number kind) (t.rows.at - first.at) }
 {
-    put_cone(t, out, byte_of(kind), t.rows.at - first.at)
-}
-
-// The byte of a kind.
-fn byte_of(kind: ConeKind) -> u8
-    ensures { result ≡ kind_number kind }
-{
-    match kind {
-        ConeKind::Zero => 0,
-        ConeKind::Nonnegative => 1,
-        ConeKind::SecondOrder => 2,
-    }
+    put_cone(t, out, kind as u8, t.rows.at - first.at)
 }
 
 // The cost of one column more.
@@ -159,6 +154,7 @@ pub fn positive(t: Tally, out: &mut Buffers, from: Column, count: usize) -> Tall
     ensures { Wrote t out.old result out.new (list positive_row from.at count) count }
 {
     let mut u = t;
+    // Over numbers: a column's number is what a row is written from.
     for i in 0..count {
         let col = Column { at: from.at + i };
         u = row(u, out, 0.0, [Term { col, v: -1.0 }]);
@@ -174,12 +170,13 @@ pub fn fill<F: Fn(usize) -> Term>(
     count: usize,
     term_at: F,
 ) -> Tally
-    requires room { (t.entries + count < 2 ^ 64) × (row.at + count ≤ 2 ^ 32) }
+    requires room { RoomFrom t row.at count }
     requires callable { (i : ℕ) → i < count → F.pre term_at i }
     requires narrow { (i : ℕ) (p : _) → i < count → F.post term_at i p → p.col.at < 2 ^ 32 }
     ensures { (f : ℕ → Cell) → ((i : ℕ) (p : _) → i < count → F.post term_at i p → term p ≡ f i) → Fills t out.old result out.new row.at f count }
 {
     let mut u = t;
+    // Over numbers: entry i stands in the i-th row from `row` on.
     for i in 0..count {
         u = put(u, out, Row { at: row.at + i }, term_at(i));
     }
@@ -197,14 +194,13 @@ pub fn fill_right<F: Fn(usize) -> f64>(
     requires callable { (i : ℕ) → i < count → F.pre side_at i }
     ensures { (f : ℕ → Float) → ((i : ℕ) (x : Float) → i < count → F.post side_at i x → x ≡ f i) → FillsRight t out.old result out.new f count }
 {
-    let mut u = t;
-    for i in 0..count {
-        u = put_right(u, out, side_at(i));
-    }
-    u
+    let at = t.rows.at;
+    store_each(out.right, at, count, side_at);
+    let next = Row { at: at + count };
+    Tally { rows: next, ..t }
 }
 
-// The costs of count columns.
+// The costs of count columns. Beside fill_right it stays, as put_cost does: what the two have in common is `store_each`.
 pub fn fill_cost<F: Fn(usize) -> f64>(
     t: Tally,
     out: &mut Buffers,
@@ -215,11 +211,10 @@ pub fn fill_cost<F: Fn(usize) -> f64>(
     requires callable { (i : ℕ) → i < count → F.pre cost_at i }
     ensures { (f : ℕ → Float) → ((i : ℕ) (x : Float) → i < count → F.post cost_at i x → x ≡ f i) → FillsCost t out.old result out.new f 0 count }
 {
-    let mut u = t;
-    for i in 0..count {
-        u = put_cost(u, out, cost_at(i));
-    }
-    u
+    let at = t.columns.at;
+    store_each(out.cost, at, count, cost_at);
+    let next = Column { at: at + count };
+    Tally { columns: next, ..t }
 }
 
 // How many ends are positive.
@@ -229,7 +224,7 @@ pub fn positive_ends(ends: Ends) -> usize
     ends.n0.min(1) + ends.n1.min(1)
 }
 
-// The spacing from station k to the next.
+// The spacing from station k to the next, for who has a grid alone, and in a closure, where an Interval's fact would be one more clause.
 pub fn spacing(grid: &[f64], k: usize) -> f64
     requires { k + 1 < length grid.now }
     ensures { result ≡ at grid.now (k + 1) ⊖ at grid.now k }

@@ -4,7 +4,7 @@ ghost use Rattle.std.specs.Prelude.{◌≡◌};
 ghost use Rattle.model.specs.Problem.{n, m, stop};
 ghost use Rattle.buffers.specs.Inputs.{Sized, path};
 
-use model::Ends;
+use model::{Ends, Problem};
 
 // The grid with its stationary counts. Refusals 4, 5 and 14 leave at least 3 stations, at most 4,097, and a moving interval.
 #[derive(Clone, Copy)]
@@ -36,5 +36,17 @@ impl<'a> Path<'a> {
         ensures { result ≡ stop (path self.entry.grid.now self.entry.ends) }
     {
         self.last() - self.ends.n1
+    }
+}
+
+// The path of a problem.
+pub fn path_in<'a>(problem: &Problem<'a>) -> Path<'a>
+    requires { Sized problem.now.grid.now problem.now.job.ends }
+    ensures grid { result.grid ≡ problem.now.grid }
+    ensures ends { result.ends ≡ problem.now.job.ends }
+{
+    Path {
+        grid: problem.grid,
+        ends: problem.job.ends,
     }
 }

@@ -6,11 +6,10 @@ mod limited;
 ghost use Rattle.std.specs.Prelude.{◌≡◌, ℕ, Bool, ◌+◌, ◌-◌, ◌*◌, ◌≤◌, ◌<◌, ltb, leb, length, get_or};
 ghost use Rattle.model.specs.Numbers.{unusable, unfit};
 ghost use Rattle.model.specs.Problem.{weight};
-ghost use Rattle.model.specs.Lists.{total};
 ghost use Rattle.model.specs.Lent.{problem_of};
 ghost use Rattle.model.specs.declared.rule.Rule.TheVariants.{WeightUnfit, TooManyRows};
 ghost use Rattle.model.specs.Verdicts.{◌then◌, refuse, lowest, itself};
-ghost use Rattle.model.specs.Refusals.{first_refusal, signs_refusal, boundary_refusal, grid_refusal, list_refusal, scales_refusal, lists_refusal, objectives_refusal, setup_refusal, table, table_if, unusable_end, crossed, refusal, most_stations, most_rows};
+ghost use Rattle.model.specs.Refusals.{first_refusal, signs_refusal, boundary_refusal, grid_refusal, list_refusal, scales_refusal, lists_refusal, objectives_refusal, setup_refusal, table_if, unusable_end, crossed, refusal, most_rows};
 ghost use Rattle.checks.specs.Groups.{job_refusal};
 
 use limited::Limited;
@@ -48,6 +47,7 @@ fn check_each<P: Fn(usize) -> usize, F: Fn(usize) -> bool>(
         → ((i : ℕ) (b : Bool) → from ≤ i → i < to → F.post fails i b → b ≡ test i)
         → result ≡ lowest rule at test from count }
 {
+    // Over numbers: the place and the test are of a number, and a test may look at two stations.
     for k in from..to {
         rule.refuse_if(place(k), fails(k))?;
     }
@@ -201,7 +201,7 @@ fn check_setup(problem: &Problem) -> Verdict
     Rule::DimensionOutOfRange.refuse_if(0, (d == 0) | (32 < d))?;
     Rule::NoObjective.refuse_if(0, count == 0)?;
     Rule::TooManyObjectives.refuse_if(0, 16 < count)?;
-    check_objectives(problem, &problem.objectives[..count])
+    check_objectives(problem, problem.listed())
 }
 
 // Whether no interval moves, refusal 14; N0 + N1 may pass 64 bits.
@@ -211,17 +211,9 @@ fn is_still(n: usize, ends: Ends) -> bool
     n <= ends.n0 || n - ends.n0 <= ends.n1
 }
 
-// Refusal 15 of table t.
-#[tactic(auto, unfolding(model::specs::Refusals::table))]
-fn check_table(t: usize, have: usize, need: usize) -> Verdict
-    ensures { result ≡ table t have need }
-{
-    Rule::TableLength.refuse_if(t, have != need)
-}
-
-// The same of a table that may not count.
+// Refusal 15 of table t, if it counts. The test comes apart from the length that is needed, as in the definition, which says it of tables that do not count too.
 #[tactic(auto, unfolding(model::specs::Refusals::table_if))]
-fn check_table_if(counts: bool, t: usize, have: usize, need: usize) -> Verdict
+fn check_table(counts: bool, t: usize, have: usize, need: usize) -> Verdict
     ensures { result ≡ table_if counts t have need }
 {
     Rule::TableLength.refuse_if(t, counts & (have != need))
@@ -233,18 +225,6 @@ fn check_rows(rows: &[u32], stations: usize) -> Verdict
     ensures { result ≡ lowest TooManyRows itself (λ k. ltb most_rows (get_or rows.now k 0)) 0 stations }
 {
     check_each(Rule::TooManyRows, 0, stations, |k| k, |k| 256 < rows[k])
-}
-
-// The sum of a table of row counts: 4,097 numbers of 32 bits fit 64 bits.
-fn total_rows(rows: &[u32]) -> usize
-    requires { length rows.now ≤ most_stations }
-    ensures { result ≡ total rows.now }
-{
-    let mut sum: usize = 0;
-    for count in rows {
-        sum += *count as usize;
-    }
-    sum
 }
 
 // Whether refusal 17 applies to a stationary end.

@@ -1,19 +1,20 @@
 // Refusals 14 to 18, of a problem within the limits that refusals 4, 5, 8 and 10 set.
 
-#![tactic(auto, using(crate::proofs::Chain::then_ok, crate::proofs::Chain::then_err))]
+#![tactic(auto, using(crate::proofs::Chain::then_ok, crate::proofs::Chain::then_err), unfolding(model::specs::Refusals::table, model::specs::Refusals::table_if))]
 
-ghost use Rattle.std.specs.Prelude.{◌≡◌, ◌+◌, ◌-◌, length, max};
-ghost use Rattle.model.specs.Problem.{n, objectives};
+ghost use Rattle.std.specs.Prelude.{◌≡◌, ◌+◌, ◌-◌, ◌≤◌, length, max};
+ghost use Rattle.model.specs.Problem.{n};
+ghost use Rattle.model.specs.Lists.{total};
 ghost use Rattle.model.specs.Lent.{problem_of};
-ghost use Rattle.model.specs.Refusals.{tables_refusal, bounds_refusal};
+ghost use Rattle.model.specs.Refusals.{most_stations, tables_refusal, bounds_refusal};
 ghost use Rattle.checks.specs.Limits.{WithinLimits, Counted, Spanned};
 ghost use Rattle.checks.specs.Groups.{counts_lengths, rows_refusal, acc_lengths, jerk_lengths, standard_lengths, torque_lengths, root_lengths, objective_lengths};
 
 use crate::{
-    check_each, check_rows, check_table, check_table_if, is_crossed, is_still, is_unusable,
-    is_unusable_end, total_rows,
+    check_each, check_rows, check_table, is_crossed, is_still, is_unusable, is_unusable_end,
 };
-use model::{Acceleration, Jerk, Job, Objective, Problem, Rule, Torque, Verdict};
+use model::{Acceleration, Jerk, Job, Problem, Rule, Torque, Verdict};
+use numbers::total;
 use objective_kinds::{any_is, is_linear, is_thermal, is_torque};
 
 #[derive(Clone, Copy)]
@@ -38,22 +39,14 @@ impl<'a> Limited<'a> {
         problem.grid.len()
     }
 
-    // The objectives that count.
-    fn objectives(self) -> &'a [Objective]
-        ensures { result.now ≡ objectives (problem_of self.entry.problem.now) }
-    {
-        let problem = self.problem;
-        &problem.objectives[..problem.job.count]
-    }
-
     // Refusal 15 of tables 0 and 1.
     fn check_counts(self) -> Verdict
         ensures { result ≡ counts_lengths (problem_of self.entry.problem.now) }
     {
         let problem = self.problem;
         let stations = self.stations();
-        check_table(0, problem.acceleration.rows.len(), stations)?;
-        check_table(1, problem.jerk.rows.len(), stations)
+        check_table(true, 0, problem.acceleration.rows.len(), stations)?;
+        check_table(true, 1, problem.jerk.rows.len(), stations)
     }
 
     // Refusal 16, table 0 before table 1.
@@ -67,27 +60,31 @@ impl<'a> Limited<'a> {
         check_rows(problem.jerk.rows, stations)
     }
 
-    // Tables 3 to 5, for so many rows.
-    fn check_acceleration(self, rows: usize) -> Verdict
-        ensures { result ≡ acc_lengths (problem_of self.entry.problem.now) rows }
+    // Tables 3 to 5, of as many rows as the counts add up to.
+    fn check_acceleration(self, counts: &[u32]) -> Verdict
+        requires { length counts.now ≤ most_stations }
+        ensures { result ≡ acc_lengths (problem_of self.entry.problem.now) (total counts.now) }
     {
         let problem = self.problem;
         let Acceleration { a, b, max, .. } = problem.acceleration;
-        check_table(3, a.len(), rows)?;
-        check_table(4, b.len(), rows)?;
-        check_table(5, max.len(), rows)
+        let rows = total(counts);
+        check_table(true, 3, a.len(), rows)?;
+        check_table(true, 4, b.len(), rows)?;
+        check_table(true, 5, max.len(), rows)
     }
 
-    // Tables 6 to 9.
-    fn check_jerk(self, rows: usize) -> Verdict
-        ensures { result ≡ jerk_lengths (problem_of self.entry.problem.now) rows }
+    // Tables 6 to 9, likewise.
+    fn check_jerk(self, counts: &[u32]) -> Verdict
+        requires { length counts.now ≤ most_stations }
+        ensures { result ≡ jerk_lengths (problem_of self.entry.problem.now) (total counts.now) }
     {
         let problem = self.problem;
         let Jerk { a, b, c, max, .. } = problem.jerk;
-        check_table(6, a.len(), rows)?;
-        check_table(7, b.len(), rows)?;
-        check_table(8, c.len(), rows)?;
-        check_table(9, max.len(), rows)
+        let rows = total(counts);
+        check_table(true, 6, a.len(), rows)?;
+        check_table(true, 7, b.len(), rows)?;
+        check_table(true, 8, c.len(), rows)?;
+        check_table(true, 9, max.len(), rows)
     }
 
     // Refusal 15 of tables 2 to 9.
@@ -96,9 +93,9 @@ impl<'a> Limited<'a> {
         ensures { result ≡ standard_lengths (problem_of self.entry.problem.now) }
     {
         let problem = self.problem;
-        check_table(2, problem.amax.len(), self.stations())?;
-        self.check_acceleration(total_rows(problem.acceleration.rows))?;
-        self.check_jerk(total_rows(problem.jerk.rows))
+        check_table(true, 2, problem.amax.len(), self.stations())?;
+        self.check_acceleration(problem.acceleration.rows)?;
+        self.check_jerk(problem.jerk.rows)
     }
 
     // Tables 11 to 13, if they count.
@@ -108,9 +105,9 @@ impl<'a> Limited<'a> {
         let problem = self.problem;
         let Torque { a, b, g } = problem.torque;
         let need = problem.job.d * self.stations();
-        check_table_if(counts, 11, a.len(), need)?;
-        check_table_if(counts, 12, b.len(), need)?;
-        check_table_if(counts, 13, g.len(), need)
+        check_table(counts, 11, a.len(), need)?;
+        check_table(counts, 12, b.len(), need)?;
+        check_table(counts, 13, g.len(), need)
     }
 
     // Tables 14 and 15, if they count.
@@ -119,8 +116,8 @@ impl<'a> Limited<'a> {
     {
         let problem = self.problem;
         let ends = problem.job.ends;
-        check_table_if(counts, 14, problem.roots.start.len(), roots_of(ends.n0))?;
-        check_table_if(counts, 15, problem.roots.end.len(), roots_of(ends.n1))
+        check_table(counts, 14, problem.roots.start.len(), roots_of(ends.n0))?;
+        check_table(counts, 15, problem.roots.end.len(), roots_of(ends.n1))
     }
 
     // Refusal 15 of tables 10 to 15.
@@ -128,9 +125,9 @@ impl<'a> Limited<'a> {
         ensures { result ≡ objective_lengths (problem_of self.entry.problem.now) }
     {
         let problem = self.problem;
-        let objectives = self.objectives();
+        let objectives = problem.listed();
         let thermal = any_is(objectives, is_thermal);
-        check_table_if(thermal, 10, problem.thermal.len(), self.stations())?;
+        check_table(thermal, 10, problem.thermal.len(), self.stations())?;
         self.check_torque(thermal | any_is(objectives, is_torque))?;
         self.check_roots(any_is(objectives, is_linear))
     }
@@ -141,6 +138,7 @@ impl<'a> Limited<'a> {
         ensures { result ≡ tables_refusal (problem_of self.entry.problem.now) }
     {
         let problem = self.problem;
+        // n, as in check_bounds: no Path here
         let still = is_still(problem.grid.len() - 1, problem.job.ends);
         Rule::NoMovingInterval.refuse_if(0, still)?;
         self.check_counts()?;
@@ -163,6 +161,7 @@ impl<'a> Limited<'a> {
             ..
         } = problem.job;
         let amax = problem.amax;
+        // crate checks does not stand above buffers, whose Path is what refusals 4, 5 and 14 leave
         let to = problem.grid.len() - 1 - ends.n1;
         Rule::BoundUnusable.refuse_if(0, is_unusable_end(ends.n0, start))?;
         Rule::BoundUnusable.refuse_if(1, is_unusable_end(ends.n1, end))?;

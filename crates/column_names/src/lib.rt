@@ -7,6 +7,7 @@ ghost use Rattle.text.specs.Text.{says};
 ghost use Rattle.column_names.specs.Columns.{layout_of, slot_at, own_letter, letter_at, word, name, kind_name, owner_name, row_owner};
 
 use model::{Column, Objective, Owner, Row};
+use numbers::item_or;
 use text::Writer;
 
 // What names and owners go by: the number of stations, the objectives, how many of them count, the index. `count` stands beside `objectives` and isn't its length: a job's count may be any number, and no function here asks that so many objectives are lent.
@@ -40,6 +41,7 @@ fn kind_name(o: Objective) -> &'static [u8]
     }
 }
 
+// Two letters stand for words, any other for itself: each arm writes what it says, and a table of words would need each byte as text.
 #[tactic(auto, unfolding(crate::specs::Columns::word))]
 fn word(out: &mut Writer, letter: u8)
     ensures { says (word letter) out }
@@ -56,19 +58,17 @@ impl Layout<'_> {
     fn slot_at(&self, i: usize) -> Objective
         ensures { result ≡ slot_at self.now.objectives.now i }
     {
-        self.objectives
-            .get(i)
-            .copied()
-            .unwrap_or(Objective::Linear {
-                weight: 0.0,
-                alpha: 0,
-                alpha_len: 0,
-                beta: 0,
-                beta_len: 0,
-            })
+        let none = Objective::Linear {
+            weight: 0.0,
+            alpha: 0,
+            alpha_len: 0,
+            beta: 0,
+            beta_len: 0,
+        };
+        item_or(self.objectives, i, none)
     }
 
-    // The first letter of a column's word: a, b, x for xi, e for eta, t; `?` for a column that nobody owns.
+    // The first letter of a column's word: a, b, x for xi, e for eta, t; `?` for a column that nobody owns. A byte, since that is what was answered from the start, and `word` alone matches it.
     #[tactic(auto, unfolding(crate::specs::Columns::letter_at, crate::specs::Columns::owner_letter))]
     pub fn letter_at(&self, column: Column) -> u8
         ensures { result ≡ letter_at (layout_of self.now) column.at }

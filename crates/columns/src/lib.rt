@@ -2,7 +2,7 @@
 
 #![tactic(auto)]
 
-ghost use Rattle.std.specs.Prelude.{◌≡◌, [], ◌<◌, ◌≤◌, length};
+ghost use Rattle.std.specs.Prelude.{◌≡◌, [], ◌<◌, ◌≤◌, max, length};
 ghost use Rattle.model.specs.Refusals.{most_stations};
 ghost use Rattle.model.specs.Problem.{on_grid, col_a, col_b, col_xi, L};
 ghost use Rattle.buffers.specs.Paths.{path_of};
@@ -25,7 +25,7 @@ pub fn column_b(grid: &[f64], k: usize) -> Column
     Column { at: grid.len() + k }
 }
 
-// xi number j.
+// xi number j. That there is a xi of that number stands with each function that takes one: the loops over the xi hand on the number alone.
 pub fn column_xi(grid: &[f64], j: usize) -> Column
     requires { (0 < length grid.now) × (length grid.now ≤ most_stations) × (j ≤ most_stations) }
     ensures { result.at ≡ col_xi (on_grid grid.now) j }
@@ -33,6 +33,13 @@ pub fn column_xi(grid: &[f64], j: usize) -> Column
     Column {
         at: 2 * grid.len() + j,
     }
+}
+
+// The first station that has a xi.
+pub fn first_xi(path: Path) -> usize
+    ensures { result ≡ max path.entry.ends.n0 1 }
+{
+    path.ends.n0.max(1)
 }
 
 // How many xi there are.

@@ -1,4 +1,5 @@
 mod Records
 mod KnownKinds
 mod KindCheck
+mod Owners
 pub mod Demands

@@ -11,8 +11,8 @@ ghost use Rattle.model.specs.OwnerAnswers.{told_owner, owner_of_row, owner_of_co
 ghost use Rattle.model.specs.declared.Owner.TheVariants.{ObjectiveNumber};
 
 use model::{
-    Acceleration, Answer, Buffers, Column, Jerk, Job, Objective, Owner, OwnerAnswer, OwnerRefusal,
-    Problem, Roots, Row, Rule, Torque, Verdict,
+    Acceleration, Answer, Buffers, Column, Jerk, Job, Objective, Owner, OwnerAnswer, Problem,
+    Roots, Row, Rule, Torque, Verdict,
 };
 use std::array::from_fn;
 
@@ -87,6 +87,7 @@ impl From<ObjectiveRecord> for Objective {
 fn objectives_of(items: &[ObjectiveRecord; 16]) -> [Objective; 16]
     ensures { result ≡ map objective_of items.now }
 {
+    // Not `items.map(Objective::from)`: it takes 3,480 bytes more of the caller's stack.
     from_fn(|i| Objective::from(items[i]))
 }
 
@@ -129,7 +130,7 @@ impl From<Answer> for AnswerRecord {
 }
 
 // No From, which would be no plainer: 2 + i may pass 64 bits, and a From asks nothing of its callers.
-#[tactic(auto, unfolding(crate::specs::Exported::owner_record))]
+#[tactic(auto, using(crate::proofs::Owners::refused_owner), unfolding(crate::specs::Exported::owner_record))]
 fn owner_record(answer: OwnerAnswer) -> OwnerRecord
     requires { (i : ℕ) → answer ≡ Ok (ObjectiveNumber i) → 2 + i < 2 ^ 64 }
     ensures { result ≡ owner_record (told_owner answer) }
@@ -138,8 +139,7 @@ fn owner_record(answer: OwnerAnswer) -> OwnerRecord
         Ok(Owner::StandardRows) => (0, 0),
         Ok(Owner::RootStage) => (0, 1),
         Ok(Owner::ObjectiveNumber(i)) => (0, 2 + i),
-        Err(OwnerRefusal::IndexTooShort) => (28, 0),
-        Err(OwnerRefusal::NotCovered) => (29, 0),
+        Err(refusal) => (refusal.number(), 0),
     };
     OwnerRecord {
         number,
@@ -258,6 +258,7 @@ pub fn copp3_assemble(
 ) -> AnswerRecord
     ensures { exported result (buffers_after rows columns values right kinds dimensions cost index) ≡ assembled_as job.count records.items (lent job (objectives_of records) grid acc_rows jerk_rows amax acc_a acc_b acc_max jerk_a jerk_b jerk_c jerk_max thermal torque_a torque_b torque_g start_roots end_roots pool) (buffers_before rows columns values right kinds dimensions cost index) }
 {
+    // As in copp3_size: a function that makes a Problem has the same 20 parameters and each call the same 20 arguments, so it is no plainer.
     let problem = Problem {
         job,
         objectives: objectives_of(&records.items),

@@ -10,7 +10,7 @@ ghost use Rattle.model.specs.Program.{cell, row};
 ghost use Rattle.model.specs.Standard.{boundary_rows, stationary_row, moving_rows, equalities};
 ghost use Rattle.buffers.specs.Bounds.{equalities_room};
 ghost use Rattle.buffers.specs.Buffers.{Fills, Wrote};
-ghost use Rattle.buffers.specs.Lent.{Room};
+ghost use Rattle.buffers.specs.Lent.{Room, RoomFrom};
 ghost use Rattle.buffers.specs.Paths.{path_of};
 
 use buffers::Path;
@@ -42,7 +42,7 @@ fn clarabel_boundary_constraint_topp3(
     boundary_row(u, out, boundary.b1, column_b(path.grid, last))
 }
 
-// The row of an end whose count is positive: k is its moving station, z its resting one.
+// The row of an end whose count is positive: k is its moving station, z its resting one. Three numbers and no struct: what else stands on an end of the path (TorqueEnd, LinearEnd) is another thing each time.
 fn clarabel_dynamic_stationary_topp3(
     t: Tally,
     out: &mut Buffers,
@@ -72,7 +72,7 @@ fn clarabel_dynamic_stationary_topp3(
 // One column of the moving rows: a of a station and of each after it, with the same value.
 #[tactic(auto, unfolding(model::specs::Problem::m))]
 fn moving_a(t: Tally, out: &mut Buffers, row: Row, path: Path, from: usize, v: f64) -> Tally
-    requires { (t.entries + length path.grid.now < 2 ^ 64) × (row.at + length path.grid.now ≤ 2 ^ 32) × (from < length path.grid.now) }
+    requires { RoomFrom t row.at (length path.grid.now) × (from < length path.grid.now) }
     ensures { Fills t out.old result out.new row.at (λ i. cell (col_a (path_of path.entry) (from + i)) v) (m (path_of path.entry)) }
 {
     buffers::fill(
@@ -90,7 +90,7 @@ fn moving_a(t: Tally, out: &mut Buffers, row: Row, path: Path, from: usize, v: f
 // And b, with the spacing of each moving interval.
 #[tactic(auto, unfolding(model::specs::Problem::m))]
 fn moving_b(t: Tally, out: &mut Buffers, row: Row, path: Path, from: usize) -> Tally
-    requires { (t.entries + length path.grid.now < 2 ^ 64) × (row.at + length path.grid.now ≤ 2 ^ 32) × (from ≤ path.ends.n0 + 1) }
+    requires { RoomFrom t row.at (length path.grid.now) × (from ≤ path.ends.n0 + 1) }
     ensures { Fills t out.old result out.new row.at (λ i. cell (col_b (path_of path.entry) (from + i)) (spacing (path_of path.entry) (path.entry.ends.n0 + i))) (m (path_of path.entry)) }
 {
     buffers::fill(

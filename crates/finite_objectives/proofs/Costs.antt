@@ -1,11 +1,14 @@
 -- What the scans of Time, of the a and b columns and of all objectives tell of the blocks. Assumes nothing.
-use mathlib.Core.Path.{◌≡◌, refl, sym, ap, ◌∙◌}
-use mathlib.Core.Bool.{Bool, true, ◌&&◌}
+use mathlib.Core.Path.{◌≡◌, refl, sym, ap, ap₂, ◌∙◌}
+use mathlib.Core.Bool.{Bool, true, false, ◌&&◌}
 use mathlib.Core.List.{List, [], ◌∷◌}
-use Prim.Native.Nat.{ℕ, zero, suc, ◌+◌}
-use native.Mathlib.Nat.{add-zero}
-use lib.Ieee.{Float, nan, neg, of_bits}
-use lib.ListN.{length, get_or}
+use Prim.Native.Nat.{ℕ, zero, suc, ◌+◌, ◌<◌}
+use native.Mathlib.Nat.{add-zero, not-suc-le-zero, le_of_suc-le-suc}
+use native.Mathlib.Omega.{arith}
+use Rattle.std.specs.Bool.{MatchBool}
+use Rattle.std.specs.List.{AllWithin, HoldsAt}
+use lib.Ieee.{Float, neg, of_bits}
+use lib.ListN.{length}
 use Rattle.model.specs.Numbers.{at, finite, ◌⊗◌, +0}
 use Rattle.model.specs.Lists.{list}
 use Rattle.model.specs.Problem.{Problem, Path, L, skip}
@@ -13,7 +16,7 @@ use Rattle.model.specs.Program.{positive_row}
 use Rattle.model.specs.Objectives.{time_cone, time_block, time_weights, linear_block, objective_block}
 use Rattle.model.specs.Assembled.{width, objective_blocks, all_finite}
 use Rattle.model.specs.declared.Objective.{Objective}
-use Rattle.model.specs.declared.Objective.TheVariants.{Time, Linear}
+use Rattle.model.specs.declared.Objective.TheVariants.{Linear}
 use Rattle.finiteness.specs.Finite.{each, Each, finite_bands, finite_block, finite_blocks}
 use Rattle.finiteness.proofs.Laws.{each_from, list_finite, each_true, positives, constants}
 
@@ -43,26 +46,33 @@ ab_scanned f {d} p e = p.says ∙ ap (each (λ j. finite (f j)) 0) e ∙ sym (li
 
 -- ---- objectives
 
-each_next : (f : ℕ → Bool) (k c : ℕ) → each f (suc k) c ≡ each (λ i. f (suc i)) k c
-each_next f k zero = refl
-each_next f k (suc c) = ap (λ (b : Bool). f (suc k) && b) (each_next f (suc k) c)
-
 pub linear_scanned : (p : Problem) (c : ℕ) {o : Objective} {w : Float} {a al b bl : ℕ} → o ≡ Linear w a al b bl → true ≡ finite_block (objective_block p c o)
 unfolding objective_block linear_block
 linear_scanned p c e = rw e
 
--- the first column of objective i, where those of all start at c
-abbrev pub first_column : Problem → ℕ → List Objective → ℕ → ℕ
-first_column p c [] i = c
-first_column p c (o ∷ os) zero = c
-first_column p c (o ∷ os) (suc i) = first_column p (c + width (objective_block p c o)) os i
+-- whether the block of an objective, wherever its columns start, is finite
+abbrev pub Judged : Problem → Bool → Objective → Type 0
+Judged p b o = (c : ℕ) → b ≡ finite_block (objective_block p c o)
 
--- so the blocks are tested one after another
-pub objectives_scanned : (p : Problem) (c : ℕ) (os : List Objective)
-    → each (λ i. finite_block (objective_block p (first_column p c os i) (get_or os i (Time nan)))) 0 (length os) ≡ finite_blocks (objective_blocks p c os)
-unfolding objective_blocks
-objectives_scanned p c [] = refl
-objectives_scanned p c (o ∷ os) =
-    let d = c + width (objective_block p c o) in
-    ap (λ (x : Bool). finite_block (objective_block p c o) && x)
-    (each_next (λ i. finite_block (objective_block p (first_column p c (o ∷ os) i) (get_or (o ∷ os) i (Time nan)))) 0 (length os) ∙ objectives_scanned p d os)
+module _ (p : Problem) where
+  passes : (c : ℕ) (os : List Objective) → AllWithin (Judged p true) os 0 (length os) → true ≡ finite_blocks (objective_blocks p c os)
+  unfolding objective_blocks
+  passes c [] h = refl
+  passes c (o ∷ os) h = ap₂ ◌&&◌ (h 0 o (omega arith) (omega arith) c) (passes (c + width (objective_block p c o)) os (λ k d l m. h (suc k) d (omega arith) (omega arith)))
+
+  and_false : (b : Bool) → false ≡ (b && false)
+  and_false true = refl
+  and_false false = refl
+
+  fails : (c : ℕ) (os : List Objective) (k : ℕ) → k < length os → HoldsAt (Judged p false) os k → false ≡ finite_blocks (objective_blocks p c os)
+  unfolding objective_blocks
+  fails c [] k l h = absurd (not-suc-le-zero l)
+  fails c (o ∷ os) zero l h = ap (λ (x : Bool). x && finite_blocks (objective_blocks p (c + width (objective_block p c o)) os)) (h o c)
+  fails c (o ∷ os) (suc k) l h =
+      and_false (finite_block (objective_block p c o))
+      ∙ ap (λ (x : Bool). finite_block (objective_block p c o) && x) (fails (c + width (objective_block p c o)) os k (le_of_suc-le-suc l) (λ d. h d))
+
+  -- so the objectives are judged one after another, up to the first that fails
+  pub objectives_scanned : (os : List Objective) (r : Bool) → MatchBool r (AllWithin (Judged p true) os 0 (length os)) ((k : ℕ) × (k < length os) × HoldsAt (Judged p false) os k) → (c : ℕ) → r ≡ finite_blocks (objective_blocks p c os)
+  objectives_scanned os true h c = passes c os h
+  objectives_scanned os false h c = fails c os h.0 h.1 h.2

@@ -15,7 +15,7 @@ ghost use Rattle.first_order.specs.Limits.{limits_of};
 ghost use Rattle.standard.specs.Input.{cones_of};
 
 use acc_jerk::{AccelerationRows, Form, JerkRows, JerkStation, jerk_value};
-use buffers::Path;
+use buffers::{Interval, Path};
 use finiteness::{all_finite, every};
 use first_order::Limits;
 use model::Boundary;
@@ -42,6 +42,7 @@ fn equalities(path: Path, boundary: Boundary) -> bool
     let one = all_finite([boundary.a0, boundary.a1, boundary.b0, boundary.b1]);
     let two = at_end(path.ends.n0, -1.5 * (grid[first] - grid[0]));
     let three = at_end(path.ends.n1, -1.5 * (grid[last] - grid[path.last()]));
+    // By the number of a station: a closure that makes an Interval needs a clause of its own, and is no plainer.
     let four = every(
         first,
         path.moving(),
@@ -60,6 +61,7 @@ fn first_order(limits: Limits) -> bool
     let grid = path.grid;
     let one = at_end(path.ends.n0, limits.start.minimum);
     let two = at_end(path.ends.n1, limits.end.minimum);
+    // By the number of a station: a closure that makes an Interval needs a clause of its own, and is no plainer.
     let three = every(path.ends.n0, path.moving(), |k| {
         let h = buffers::spacing(grid, k);
         all_finite([h, -2.0 * h])
@@ -67,7 +69,7 @@ fn first_order(limits: Limits) -> bool
     both(both(one, two), three)
 }
 
-// The acceleration rows: those of the stations that move on both sides stand one after another in the tables.
+// The acceleration rows: those of the stations that move on both sides stand one after another in the tables, so the scan goes over places of these.
 #[tactic(auto, unfolding(model::specs::Problem::stop))]
 fn acceleration(rows: AccelerationRows) -> bool
     ensures { result ≡ finite_bands (list (acceleration_rows (path_of rows.entry.path) (acc_of rows.entry.tables)) (rows.entry.path.ends.n0 + 1) (m (path_of rows.entry.path) - 1)) }
@@ -82,14 +84,14 @@ fn acceleration(rows: AccelerationRows) -> bool
     )
 }
 
-// The sums of a station's jerk rows, on the interval from station j on. Of a row the sum alone: a product that is not finite makes it not finite too.
-fn sums(station: JerkStation, j: usize, form: Form) -> bool
-    requires { j + 1 < length station.rows.path.grid.now }
-    ensures { Each result (jerk_test form station.entry.rows.tables.b.now station.entry.rows.tables.c.now (+1 ⊘ spacing (path_of station.entry.rows.path) j)) station.entry.from (get_or station.entry.rows.tables.rows.now station.entry.k 0) }
+// The sums of a station's jerk rows, on an interval. Of a row the sum alone: a product that is not finite makes it not finite too.
+// Over places of the whole tables, as the definition of the test goes: over the station's parts it is no plainer.
+fn sums(station: JerkStation, interval: Interval, form: Form) -> bool
+    ensures { Each result (jerk_test form station.entry.rows.tables.b.now station.entry.rows.tables.c.now (+1 ⊘ spacing (path_of interval.entry.path) interval.entry.k)) station.entry.from (get_or station.entry.rows.tables.rows.now station.entry.k 0) }
 {
     let b = station.rows.tables.b;
     let c = station.rows.tables.c;
-    let r = 1.0 / buffers::spacing(station.rows.path.grid, j);
+    let r = 1.0 / interval.spacing();
     every(
         station.from,
         station.count(),
@@ -101,10 +103,12 @@ fn sums(station: JerkStation, j: usize, form: Form) -> bool
 fn back_at(station: JerkStation) -> bool
     ensures { result ≡ back_at (path_of station.entry.rows.path) station.entry.rows.tables.b.now station.entry.rows.tables.c.now station.entry.k station.entry.from (get_or station.entry.rows.tables.rows.now station.entry.k 0) }
 {
-    if station.k <= station.rows.path.ends.n0 {
+    let path = station.rows.path;
+    if station.k <= path.ends.n0 {
         return true;
     }
-    sums(station, station.k - 1, Form::Here)
+    let k = station.k - 1;
+    sums(station, Interval { path, k }, Form::Here)
 }
 
 // The sums of a station's forward group, unless it is the last.
@@ -112,13 +116,15 @@ fn back_at(station: JerkStation) -> bool
 fn ahead_at(station: JerkStation) -> bool
     ensures { result ≡ ahead_at (path_of station.entry.rows.path) station.entry.rows.tables.b.now station.entry.rows.tables.c.now station.entry.k station.entry.from (get_or station.entry.rows.tables.rows.now station.entry.k 0) }
 {
-    if station.rows.path.stop() <= station.k {
+    let path = station.rows.path;
+    let k = station.k;
+    if path.stop() <= k {
         return true;
     }
-    sums(station, station.k, Form::Ahead)
+    sums(station, Interval { path, k }, Form::Ahead)
 }
 
-// Both groups of a station, and what they share.
+// Both groups of a station, and what they share. Over places of the whole tables, as in `sums`.
 fn jerk_at(station: JerkStation) -> bool
     ensures { result ≡ finite_bands (jerk_rows_at (path_of station.entry.rows.path) (jerk_of station.entry.rows.tables) station.entry.k) }
 {
@@ -132,16 +138,16 @@ fn jerk_at(station: JerkStation) -> bool
 }
 
 // The jerk rows of all moving stations. Where a station's numbers begin goes on with each, so a loop carries it: a `scan` is no plainer.
-#[tactic(auto, unfolding(model::specs::Problem::m))]
+#[tactic(auto, unfolding(model::specs::Problem::m, model::specs::Problem::stop))]
 fn jerk(rows: JerkRows) -> bool
     ensures { result ≡ finite_bands (over (jerk_rows_at (path_of rows.entry.path) (jerk_of rows.entry.tables)) rows.entry.path.ends.n0 (m (path_of rows.entry.path) + 1)) }
 {
     let first = rows.path.ends.n0;
-    let count = rows.path.moving() + 1;
+    let last = rows.path.stop();
     let mut from = acc_jerk::offset(rows.tables.rows, first);
     let mut ok = true;
-    for i in 0..count {
-        let k = first + i;
+    // Over the stations' numbers: a JerkStation is told by its own.
+    for k in first..last + 1 {
         ok = both(ok, jerk_at(JerkStation { rows, k, from }));
         from = from + rows.tables.rows[k] as usize;
     }

@@ -2,7 +2,7 @@
 use mathlib.Core.Path.{◌≡◌, refl, sym, ap, ap₂, ◌∙◌}
 use mathlib.Core.Bool.{Bool, true, false, ◌&&◌}
 use mathlib.Core.List.{List, [], ◌∷◌, ◌++◌, map, map-append}
-use Prim.Native.Nat.{ℕ, zero, suc, ◌+◌, ◌≤◌, ◌<◌}
+use Prim.Native.Nat.{ℕ, zero, suc, ◌+◌, ◌-◌, ◌≤◌, ◌<◌}
 use native.Mathlib.Nat.{add-zero, zero-add, add-suc, suc-add}
 use native.Mathlib.Numerals.{add-one}
 use native.Mathlib.Omega.{arith}
@@ -66,6 +66,16 @@ module _ {f : ℕ → Bool} {k : ℕ} where
 
   pub each_all : {u : Bool} {i c : ℕ} → Each u f k i → i ≤ c → c ≤ i → Each u f k c
   each_all {u} {i} {c} p a b = let e : c ≡ i = omega arith in record { says = p.says ∙ ap (each f k) (sym e) }
+
+  -- of a loop over the places themselves
+  pub each_start : Each true f k (k - k)
+  each_start = let e : k - k ≡ 0 = omega arith in rw e each_none
+
+  pub each_next : {u v w : Bool} {i : ℕ} → k ≤ i → Each u f k (i - k) → v ≡ f i → w ≡ (u && v) → Each w f k (i + 1 - k)
+  each_next {i} h p e g =
+      let more : i + 1 - k ≡ i - k + 1 = omega arith in
+      let here : i ≡ k + (i - k) = omega arith in
+      rw more (each_more p (e ∙ ap f here) g)
 
 -- ---- numbers in a row
 

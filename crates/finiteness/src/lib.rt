@@ -25,8 +25,9 @@ pub fn every<F: Fn(usize) -> bool>(from: usize, count: usize, test: F) -> bool
     ensures { (f : ℕ → Bool) → ((k : ℕ) (b : Bool) → from ≤ k → k < from + count → F.post test k b → b ≡ f k) → Each result f from count }
 {
     let mut ok = true;
-    for i in 0..count {
-        ok = both(ok, test(from + i));
+    // Over numbers: the test is told by its place.
+    for k in from..from + count {
+        ok = both(ok, test(k));
     }
     ok
 }

@@ -15,7 +15,7 @@ ghost use Rattle.buffers.specs.Lent.{Room};
 ghost use Rattle.buffers.specs.Paths.{path_of};
 ghost use Rattle.first_order.specs.Limits.{limits_of};
 
-use buffers::Path;
+use buffers::{Interval, Path};
 use columns::{column_a, column_b};
 pub use limits::Limits;
 use model::{Bounds, Buffers, Tally, Term};
@@ -59,18 +59,20 @@ fn uppers(t: Tally, out: &mut Buffers, limits: Limits) -> Tally
     ensures { Wrote t out.old result out.new (over (λ k. upper_row (path_of limits.entry.path) k (at limits.entry.amax.now k)) (limits.entry.path.ends.n0 + 1) (m (path_of limits.entry.path) - 1)) (length limits.entry.path.grid.now) }
 {
     let mut u = t;
+    // Over the stations' numbers: a row's column is told by its station's. Each turn is one call: see crate buffers.
     for k in limits.path.ends.n0 + 1..limits.path.stop() {
         u = upper(u, out, k, limits.amax[k]);
     }
     u
 }
 
-// The two rows of the interval from station k on.
-fn interval(t: Tally, out: &mut Buffers, path: Path, k: usize) -> Tally
-    requires { Room t 2 × (k + 1 < length path.grid.now) }
-    ensures { Wrote t out.old result out.new (interval_rows (path_of path.entry) k) 2 }
+// The two rows of an interval.
+fn interval_rows(t: Tally, out: &mut Buffers, interval: Interval) -> Tally
+    requires { Room t 2 }
+    ensures { Wrote t out.old result out.new (interval_rows (path_of interval.entry.path) interval.entry.k) 2 }
 {
-    let h = buffers::spacing(path.grid, k);
+    let Interval { path, k } = interval;
+    let h = interval.spacing();
     let b = column_b(path.grid, k);
     let next = column_b(path.grid, k + 1);
     let p = Term {
@@ -92,8 +94,9 @@ fn clarabel_interval_a_constraint_topp3(t: Tally, out: &mut Buffers, path: Path)
     ensures { Wrote t out.old result out.new (over (interval_rows (path_of path.entry)) path.entry.ends.n0 (m (path_of path.entry))) (2 * length path.entry.grid.now) }
 {
     let mut u = t;
+    // Over the stations' numbers: an interval is told by its first station's. Each turn is one call: see crate buffers.
     for k in path.ends.n0..path.stop() {
-        u = interval(u, out, path, k);
+        u = interval_rows(u, out, Interval { path, k });
     }
     u
 }

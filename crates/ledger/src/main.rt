@@ -23,6 +23,7 @@ fn print_answer(rt: &impl Print, answer: Answer) -> io::Result<()> {
 }
 
 fn main(rt: HostRuntime) -> io::Result<()> {
+    // Over numbers: a case goes by its number.
     for i in 0..ledger_cases::count() {
         let letter = [ledger_cases::letter_at(i)];
         rt.write_all(&letter)?;

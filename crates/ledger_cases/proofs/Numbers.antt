@@ -1,11 +1,10 @@
 -- The cases at their numbers: number 0 and the numbers past the last are case A, and the letters are A to N.
-use Prim.Native.Nat.{ℕ, zero, suc, ◌≤◌, ◌<◌}
-use native.Mathlib.Nat.{not-suc-le-zero, le_of_suc-le-suc}
+use Prim.Native.Nat.{ℕ, zero, suc, ◌≤◌}
 use native.Mathlib.Omega.{arith}
 use native.Mathlib.Decide.{ℕ_discrete}
-use mathlib.Core.Path.{◌≡◌, refl}
-use mathlib.Core.List.{List, [], ◌∷◌, map}
-use lib.ListN.{length, get_or, get_or-eq_default}
+use mathlib.Core.Path.{◌≡◌}
+use mathlib.Core.List.{map}
+use lib.ListN.{get_or, get_or-eq_default, get_or-map}
 use Rattle.model.specs.Ledger.{A, cases, case, case_a}
 use Rattle.model.specs.Ledger as Definition
 use Rattle.ledger_cases.specs.Cases.{case_at, problem_at, letter, letter_at}
@@ -30,16 +29,7 @@ first_or_past i h = go (ℕ_discrete i 0)
     go (yes e) = rw e
     go (no f) = rw (past i (others i 13 h (omega arith)))
 
--- an element of a list that f has gone over
-map_at : {A B : Type 0} (f : A → B) (l : List A) (i : ℕ) (d : A) (e : B) → i < length l → get_or (map f l) i e ≡ f (get_or l i d)
-map_at f [] i d e h = absurd (not-suc-le-zero h)
-map_at f (x ∷ xs) zero d e h = refl
-map_at f (x ∷ xs) (suc i) d e h = map_at f xs i d e (le_of_suc-le-suc h)
-
-pub letter_in : (i : ℕ) → i < 14 → get_or (map (λ (c : Definition.Case). letter c.name) cases) i 0 ≡ letter_at i
+-- past the last letter the default is case A's, so the list's map needs no bound
+pub letter_or : (i : ℕ) → get_or (map (λ (c : Definition.Case). letter c.name) cases) i 65 ≡ letter_at i
 unfolding letter_at
-letter_in i h = map_at (λ (c : Definition.Case). letter c.name) cases i (case A case_a) 0 h
-
-pub letter_past : (i : ℕ) → 14 ≤ i → 65 ≡ letter_at i
-unfolding letter_at
-letter_past i h = rw (past i h)
+letter_or i = get_or-map (λ (c : Definition.Case). letter c.name) cases i (case A case_a)

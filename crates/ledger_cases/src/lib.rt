@@ -1,4 +1,5 @@
 // Document 01's ledger: the letter and the answer of each of its fourteen cases, by the case's number.
+// Cases go by their number, and any number was taken from the start: an enum of them would need a function from any number to it.
 #![tactic(auto)]
 
 ghost use Rattle.std.specs.Prelude.{◌≡◌, length, take};
@@ -11,8 +12,9 @@ ghost use Rattle.ledger_cases.specs.Cases.{problem_of, Small, problem_at, letter
 use model::{
     Acceleration, Answer, Boundary, Bounds, Ends, Jerk, Job, Objective, Problem, Roots, Torque,
 };
+use numbers::item_or;
 
-// What a case may change. Its grid and amax are the first `stations` numbers of theirs; its objectives are `count` equal ones; it has `jerk` rows per station.
+// What a case may change. Its grid and amax are the first `stations` numbers of theirs; its objectives are `count` equal ones; it has `jerk` rows per station. The arrays stand beside their lengths: nothing here is on a heap, and a slice would have to be lent from somewhere.
 #[derive(Clone, Copy)]
 struct Case {
     a0: f64,
@@ -38,7 +40,7 @@ fn usual(stations: usize, n0: usize, n1: usize, d: usize, objective: Objective) 
         d,
         objective,
         count: 1,
-        amax: [1.0 / 0.0; 4],
+        amax: [f64::INFINITY; 4],
         jerk: 0,
     }
 }
@@ -77,7 +79,7 @@ fn linear() -> Objective
     }
 }
 
-// Case number i from 0: A, B, .. N, and A again past N.
+// Case number i from 0: A, B, .. N, and A again past N. An arm says what its case has other than case A, or the usual case of another size.
 fn case_at(i: usize) -> Case
     ensures { (problem_of result ≡ problem_at i) × Small result }
 {
@@ -92,7 +94,7 @@ fn case_at(i: usize) -> Case
         6 => return usual(4, 1, 0, 2, thermal(2)),
         7 => return usual(3, 0, 0, 1, linear()),
         8 => c.amax[1] = 4.0,
-        9 => return usual(3, 0, 0, 1, Objective::Time(0.0 / 0.0)),
+        9 => return usual(3, 0, 0, 1, Objective::Time(f64::NAN)),
         10 => {
             c.a0 = -1.0;
             c.stations = 2;
@@ -111,7 +113,7 @@ fn job_of(c: Case) -> Job
 {
     let ends = c.ends;
     let free = Bounds {
-        maximum: 1.0 / 0.0,
+        maximum: f64::INFINITY,
         minimum: 0.0,
     };
     Job {
@@ -193,11 +195,11 @@ pub fn count() -> usize
 }
 
 // The letter that document 01 calls case number i by; the cases go from 0.
+#[tactic(auto, using(crate::proofs::Numbers::letter_or))]
 pub fn letter_at(i: usize) -> u8
     ensures { result ≡ letter_at i }
 {
-    let letters = b"ABCDEFGHIJKLMN";
-    if i < letters.len() { letters[i] } else { b'A' }
+    item_or(b"ABCDEFGHIJKLMN", i, b'A')
 }
 
 // What sizing answers of case number i.

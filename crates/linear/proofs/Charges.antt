@@ -34,6 +34,13 @@ module _ {x : Float} {c : ℕ} {f : ℕ → Float} {k : ℕ} where
         says = sym (rw (add-one, list_snoc (λ (j : ℕ). cell c (f j)) k i, charged_append x c (list (λ (j : ℕ). cell c (f j)) k i) (cell c (f (k + i)) ∷ []), ← p.says, ← e) (charged_on y c v));
       }
 
+  -- the same, of a loop that goes by the number j of the charge
+  pub sums_next : {y v : Float} {j i : ℕ} → Sums y x c f k (j - k) → k ≤ j → j + 1 ≡ k + i → v ≡ f j → Sums (y ⊕ v) x c f k i
+  sums_next {y} {v} {j} {i} p h n e =
+      let a : k + (j - k) ≡ j = omega arith in
+      let b : j - k + 1 ≡ i = omega (arith, n) in
+      subst (λ (q : ℕ). Sums (y ⊕ v) x c f k q) b (sums_more p (e ∙ ap f (sym a)))
+
 -- charges on other columns
 pub charged_past : (x : Float) (c : ℕ) (ks : List Cell) → All (λ k. k.column ≢ c) ks → charged_at x c ks ≡ x
 charged_past x c [] h = refl

@@ -30,8 +30,9 @@ impl<'a> LinearEnd<'a> {
         ensures { Sums result x self.entry.moving (charge_at self.entry) 1 (length self.entry.roots.now) }
     {
         let mut y = x;
-        for i in 0..self.roots.len() {
-            y = y + self.charge(1 + i);
+        // Over the stations' numbers: what station k adds is told from the grid, alpha and beta at k and the root at k - 1.
+        for k in 1..=self.roots.len() {
+            y = y + self.charge(k);
         }
         y
     }

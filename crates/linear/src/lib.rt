@@ -2,11 +2,12 @@
 
 #![tactic(auto)]
 
+mod costs;
 mod end;
 mod objective;
 mod parts;
 
-ghost use Rattle.std.specs.Prelude.{◌+◌, ◌*◌, ◌^◌, ◌≤◌, length, All};
+ghost use Rattle.std.specs.Prelude.{◌+◌, ◌*◌, ◌^◌, ◌≤◌, length};
 ghost use Rattle.model.specs.Numbers.{+0};
 ghost use Rattle.model.specs.Lists.{joined};
 ghost use Rattle.model.specs.Problem.{n};
@@ -15,6 +16,7 @@ ghost use Rattle.buffers.specs.Paths.{path_of};
 ghost use Rattle.linear.specs.Charges.{Charged};
 ghost use Rattle.linear.specs.Parts.{FitsIn, charges_in, cost_in};
 
+pub use costs::LinearCosts;
 use model::{Buffers, Column, Objective, Tally};
 use objective_kinds::{any_is, is_linear};
 pub use parts::LinearInput;
@@ -47,27 +49,25 @@ fn charge(x: f64, input: &LinearInput, o: Objective, c: Column) -> f64
 }
 
 // The cost of column c with all objectives.
-pub fn column_cost(input: &LinearInput, objectives: &[Objective], c: Column) -> f64
-    requires { All (FitsIn input.now) objectives.now }
-    ensures { Charged result +0 c.at (joined (charges_in input.now) objectives.now) }
+pub fn column_cost(costs: &LinearCosts, c: Column) -> f64
+    ensures { Charged result +0 c.at (joined (charges_in costs.now.input) costs.now.objectives.now) }
 {
+    let input = &costs.input;
     let mut x = 0.0;
-    for o in objectives {
+    for o in costs.objectives {
         x = charge(x, input, *o, c);
     }
     x
 }
 
 // The cost of the a and b columns: each told and written on its own, so that nothing is read back. Without a Linear it is 0.
-pub fn ab_costs(t: Tally, out: &mut Buffers, input: &LinearInput, objectives: &[Objective]) -> Tally
-    requires { (t.columns.at + 2 * length input.now.path.grid.now ≤ 2 ^ 32) × All (FitsIn input.now) objectives.now }
-    ensures { FillsCost t out.old result out.new (cost_in input.now objectives.now) 0 (2 * (n (path_of input.now.path) + 1)) }
+pub fn ab_costs(t: Tally, out: &mut Buffers, costs: &LinearCosts) -> Tally
+    requires { t.columns.at + 2 * length costs.now.input.path.grid.now ≤ 2 ^ 32 }
+    ensures { FillsCost t out.old result out.new (cost_in costs.now.input costs.now.objectives.now) 0 (2 * (n (path_of costs.now.input.path) + 1)) }
 {
-    let count = 2 * input.path.grid.len();
-    if any_is(objectives, is_linear) {
-        return buffers::fill_cost(t, out, count, |i| {
-            column_cost(input, objectives, Column { at: i })
-        });
+    let count = 2 * costs.input.path.grid.len();
+    if any_is(costs.objectives, is_linear) {
+        return buffers::fill_cost(t, out, count, |i| column_cost(costs, Column { at: i }));
     }
     buffers::fill_cost(t, out, count, |_i| 0.0)
 }

@@ -25,7 +25,7 @@ pub struct LinearObjective<'a> {
     ghost given: { Given path.grid.now path.ends roots.start.now roots.end.now alpha.now beta.now },
 }
 
-// An end of its path: the moving station next to it, its last station, and its roots, one for each station between the two.
+// An end of its path: the moving station next to it, its last station, and its roots, one for each station between the two. TorqueEnd (crate torque) has other things on the same end, so neither holds the other.
 #[derive(Clone, Copy)]
 pub struct LinearEnd<'a> {
     pub objective: LinearObjective<'a>,

@@ -6,8 +6,9 @@ ghost use Rattle.listing.specs.Listed.{layout_in, matrix_in};
 ghost use Rattle.listing.specs.Rows.{row, kind_word, cone_head, cone};
 
 use crate::Assembled;
-use crate::rows::number_at;
+use crate::each::each;
 use model::Row;
+use numbers::item_or;
 use text::Writer;
 
 impl Assembled<'_> {
@@ -32,21 +33,23 @@ impl Assembled<'_> {
         out.words(b": ");
         out.words(self.kind_word(j));
         out.words(b", dimension ");
-        out.decimal(number_at(self.contents.dimensions, j) as u64);
+        out.decimal(item_or(self.contents.dimensions, j, 0) as u64);
         out.words(b", ");
         self.layout.row_owner(out, first);
         out.words(b"\n");
     }
 
     // The rows from `first` to before `end`.
-    #[tactic(auto, using(crate::proofs::Laws::written_turn, text::proofs::Laws::written_nothing))]
     fn cone_rows(&self, out: &mut Writer, first: Row, end: Row)
         requires { first.at ≤ end.at }
         ensures { says (over (row (layout_in self.now) (matrix_in self.now) self.now.counts.entries self.now.contents.right.now) first.at (end.at - first.at)) out }
     {
-        for r in first.at..end.at {
-            self.row(out, Row { at: r });
-        }
+        each(
+            out,
+            first.at,
+            end.at - first.at,
+            |out, r| self.row(out, Row { at: r }),
+        );
     }
 
     // All cones. Where a dimension leads past the last row, the cone ends there.
@@ -54,8 +57,9 @@ impl Assembled<'_> {
         ensures { says (over (cone (layout_in self.now) (matrix_in self.now) self.now.counts.entries self.now.contents.right.now self.now.counts.rows self.now.contents.kinds.now self.now.contents.dimensions.now) 0 self.now.counts.cones) out }
     {
         let mut first = Row { at: 0 };
+        // Over numbers: the buffers lent may hold fewer kinds and dimensions than there are cones.
         for j in 0..self.counts.cones {
-            let dimension = number_at(self.contents.dimensions, j);
+            let dimension = item_or(self.contents.dimensions, j, 0) as usize;
             let end = Row {
                 at: first.at.saturating_add(dimension).min(self.counts.rows),
             };

@@ -5,7 +5,7 @@ ghost use Rattle.listing.specs.Listed.{contents_of};
 
 use model::Buffers;
 
-// What buffers 0 to 6 and the index hold, each lent by `&`.
+// What buffers 0 to 6 and the index hold, each lent by `&`. The page took eight slices by `&` from the start, and `&Buffers` would ask its callers for `&mut` ones.
 #[derive(Clone, Copy)]
 pub struct Contents<'a> {
     pub rows: &'a [u32],

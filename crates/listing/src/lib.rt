@@ -3,6 +3,7 @@
 
 mod cones;
 mod contents;
+mod each;
 mod pattern;
 mod rows;
 
@@ -39,6 +40,7 @@ fn counts_line(out: &mut Writer, counts: FourCounts)
 }
 
 // The page of an answer and of what the buffers hold after it. The index is that of the buffers, so what names go by comes in parts and not as a Layout.
+// The refusal of an Answer is a Rule. What was promised here of any number, `refusal_words::refused` promises: the same text.
 #[tactic(auto, using(text::proofs::Laws::written_append), unfolding(crate::specs::Page::page_of))]
 pub fn page(
     out: &mut Writer,

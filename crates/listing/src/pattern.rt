@@ -8,6 +8,7 @@ ghost use Rattle.listing.specs.Listed.{layout_in, matrix_in};
 ghost use Rattle.listing.specs.Pattern.{sign_mark, mark_from, picture_row, picture};
 
 use crate::Assembled;
+use crate::each::each;
 use crate::rows::float_at;
 use model::{Column, Row};
 use text::Writer;
@@ -50,13 +51,12 @@ impl Assembled<'_> {
         }
     }
 
-    #[tactic(auto, using(crate::proofs::Laws::written_next, text::proofs::Laws::written_nothing))]
     fn marks(&self, out: &mut Writer, row: Row)
         ensures { says (over (λ k. mark_from (matrix_in self.now) row.at k 0 self.now.counts.entries ∷ []) 0 self.now.counts.columns) out }
     {
-        for k in 0..self.counts.columns {
-            out.put(self.mark(row, Column { at: k }));
-        }
+        each(out, 0, self.counts.columns, |out, k| {
+            out.put(self.mark(row, Column { at: k }))
+        });
     }
 
     fn picture_row(&self, out: &mut Writer, row: Row)
@@ -69,22 +69,23 @@ impl Assembled<'_> {
         out.words(b"\n");
     }
 
-    #[tactic(auto, using(crate::proofs::Laws::written_next, text::proofs::Laws::written_nothing))]
     fn letters(&self, out: &mut Writer)
         ensures { says (over (λ k. letter_at (layout_in self.now) k ∷ []) 0 self.now.counts.columns) out }
     {
-        for k in 0..self.counts.columns {
-            out.put(self.layout.letter_at(Column { at: k }));
-        }
+        each(out, 0, self.counts.columns, |out, k| {
+            out.put(self.layout.letter_at(Column { at: k }))
+        });
     }
 
-    #[tactic(auto, using(crate::proofs::Laws::written_next, text::proofs::Laws::written_nothing))]
     fn picture_rows(&self, out: &mut Writer)
         ensures { says (over (picture_row (matrix_in self.now) self.now.counts.entries self.now.counts.columns) 0 self.now.counts.rows) out }
     {
-        for r in 0..self.counts.rows {
-            self.picture_row(out, Row { at: r });
-        }
+        each(
+            out,
+            0,
+            self.counts.rows,
+            |out, r| self.picture_row(out, Row { at: r }),
+        );
     }
 
     // The whole picture: the first letters of the columns' words, and a line for each row.

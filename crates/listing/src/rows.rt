@@ -7,19 +7,16 @@ ghost use Rattle.listing.specs.Listed.{layout_in, matrix_in};
 ghost use Rattle.listing.specs.Rows.{plus, term, entry, row as row_line, charge, cost_line};
 
 use crate::Assembled;
+use crate::each::each;
 use model::{Column, Row};
+use numbers::item_or;
 use text::Writer;
 
-pub(crate) fn number_at(xs: &[u32], i: usize) -> usize
-    ensures { result ≡ get_or xs.now i 0 }
-{
-    xs.get(i).copied().unwrap_or(0) as usize
-}
-
+// Double i; past the end NaN, as the definition `at` has it.
 pub(crate) fn float_at(xs: &[f64], i: usize) -> f64
     ensures { result ≡ at xs.now i }
 {
-    xs.get(i).copied().unwrap_or(f64::NAN)
+    item_or(xs, i, f64::NAN)
 }
 
 #[tactic(auto, using(text::proofs::Laws::written_nothing))]
@@ -37,7 +34,7 @@ impl Assembled<'_> {
         ensures { result.at ≡ get_or self.now.contents.rows.now i 0 }
     {
         Row {
-            at: number_at(self.contents.rows, i),
+            at: item_or(self.contents.rows, i, 0) as usize,
         }
     }
 
@@ -45,7 +42,7 @@ impl Assembled<'_> {
         ensures { result.at ≡ get_or self.now.contents.columns.now i 0 }
     {
         Column {
-            at: number_at(self.contents.columns, i),
+            at: item_or(self.contents.columns, i, 0) as usize,
         }
     }
 
@@ -72,13 +69,15 @@ impl Assembled<'_> {
     }
 
     // The terms of a row.
-    #[tactic(auto, using(crate::proofs::Laws::written_next, text::proofs::Laws::written_nothing))]
     fn terms(&self, out: &mut Writer, row: Row)
         ensures { says (over (entry (layout_in self.now) (matrix_in self.now) row.at) 0 self.now.counts.entries) out }
     {
-        for i in 0..self.counts.entries {
-            self.entry(out, row, i);
-        }
+        each(
+            out,
+            0,
+            self.counts.entries,
+            |out, i| self.entry(out, row, i),
+        );
     }
 
     pub(crate) fn row(&self, out: &mut Writer, row: Row)
@@ -105,13 +104,15 @@ impl Assembled<'_> {
         self.term(out, x, column);
     }
 
-    #[tactic(auto, using(crate::proofs::Laws::written_next, text::proofs::Laws::written_nothing))]
     fn charges(&self, out: &mut Writer)
         ensures { says (over (charge (layout_in self.now) self.now.contents.cost.now) 0 self.now.counts.columns) out }
     {
-        for k in 0..self.counts.columns {
-            self.charge(out, Column { at: k });
-        }
+        each(
+            out,
+            0,
+            self.counts.columns,
+            |out, k| self.charge(out, Column { at: k }),
+        );
     }
 
     pub(crate) fn cost_line(&self, out: &mut Writer)

@@ -25,7 +25,7 @@ times : (a b c d : ℕ) → a ≤ c → b ≤ d → a * b ≤ c * d
 times a b c d x y = mul-le-mul x y
 
 -- numbers of at most b
-total_le : (b : ℕ) (l : List ℕ) → ((i : ℕ) → get_or l i 0 ≤ b) → total l ≤ b * length l
+pub total_le : (b : ℕ) (l : List ℕ) → ((i : ℕ) → get_or l i 0 ≤ b) → total l ≤ b * length l
 total_le b [] h = omega arith
 total_le b (x ∷ xs) h =
     let r = total_le b xs (λ i. h (suc i)) in

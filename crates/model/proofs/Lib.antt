@@ -12,6 +12,7 @@ pub mod InCone
 pub mod Bound
 pub mod Attained
 pub mod Rules
+pub mod Refused
 pub mod Passes
 pub mod Ready
 pub mod Usable

@@ -1,5 +1,5 @@
 -- What a function was lent, as the definitions speak of it. An `ensures` has a reference as the pair of its two moments, when the function is entered and
--- when it is left; a `requires` has it as it is on entry. A table is lent by `&`, a buffer by `&mut`: a clause of a function calls what a buffer holds then
+-- when it is left. A table is lent by `&`, a buffer by `&mut`: a clause of a function calls what a buffer holds then
 -- `x.old` and `x.new`.
 use Rattle.model.specs.Base.{ℕ, List, Float, Job, Objective}
 use Rattle.model.specs.Problem.{Problem, problem}
@@ -10,7 +10,7 @@ use Rattle.std.specs.Prelude.{◌≡◌}
 use Rattle.std.specs.Borrow.{Bor, MutBor}
 use denote.Triple.Both.{Both}
 
--- a lent slice in a `requires`, and in an `ensures`
+-- a lent slice at one moment, and in an `ensures`
 abbrev pub Slice : Type 0 → Type 0
 Slice A = Bor (List A)
 
@@ -37,12 +37,6 @@ lent job slots grid t0 t1 t2 t3 t4 t5 t6 t7 t8 t9 t10 t11 t12 t13 t14 t15 pool =
     problem job slots (at_entry grid) (at_entry t0) (at_entry t1) (at_entry t2) (at_entry t3) (at_entry t4) (at_entry t5) (at_entry t6)
     (at_entry t7) (at_entry t8) (at_entry t9) (at_entry t10) (at_entry t11) (at_entry t12) (at_entry t13) (at_entry t14) (at_entry t15) (at_entry pool)
 
--- the same, in a `requires`
-abbrev pub held : Job → List Objective → Slice Float → Slice ℕ → Slice ℕ → Slice Float → Slice Float → Slice Float → Slice Float → Slice Float → Slice Float → Slice Float → Slice Float → Slice Float → Slice Float → Slice Float → Slice Float → Slice Float → Slice Float → Slice Float → Problem
-held job slots grid t0 t1 t2 t3 t4 t5 t6 t7 t8 t9 t10 t11 t12 t13 t14 t15 pool =
-    problem job slots grid.now t0.now t1.now t2.now t3.now t4.now t5.now t6.now
-    t7.now t8.now t9.now t10.now t11.now t12.now t13.now t14.now t15.now pool.now
-
 -- what buffers 0 to 6 and the index hold on entry, and what they hold on exit
 abbrev pub buffers_before : LentMut ℕ → LentMut ℕ → LentMut Float → LentMut Float → LentMut ℕ → LentMut ℕ → LentMut Float → LentMut ℕ → Buffers
 buffers_before rows columns values right kinds dimensions cost index =
@@ -52,7 +46,7 @@ abbrev pub buffers_after : LentMut ℕ → LentMut ℕ → LentMut Float → Len
 buffers_after rows columns values right kinds dimensions cost index =
     buffers (at_exit rows) (at_exit columns) (at_exit values) (at_exit right) (at_exit kinds) (at_exit dimensions) (at_exit cost) (at_exit index)
 
--- the same of the struct that holds what was lent
+-- the problem that a struct lends
 abbrev pub problem_of : LentProblem → Problem
 problem_of p =
     problem p.job p.objectives p.grid.now p.acceleration.rows.now p.jerk.rows.now p.amax.now p.acceleration.a.now p.acceleration.b.now p.acceleration.max.now

@@ -4,7 +4,12 @@
 
 mod rule;
 
-pub use rule::Rule;
+ghost use Rattle.std.specs.Prelude.{◌≡◌, ◌≤◌, Err, take};
+ghost use Rattle.model.specs.Refusals.{most_objectives};
+ghost use Rattle.model.specs.Counts.{four_counts};
+ghost use Rattle.model.specs.OwnerAnswers.{told_owner};
+
+pub use rule::{Rule, err_if};
 
 // Boundary states, in the order of refusal 1: initial a, terminal a, initial b, terminal b.
 #[repr(C)]
@@ -32,7 +37,7 @@ pub struct Ends {
     pub n1: usize,
 }
 
-// An objective: its weight, and the parts (start, length) of the pool that hold its lists.
+// An objective: its weight, and the parts of the pool that hold its lists. Document 01 names the parts (start, length), so they are plain fields.
 #[derive(Clone, Copy)]
 pub enum Objective {
     Time(f64),
@@ -68,12 +73,13 @@ pub struct Job {
 }
 
 // A row number and a column number, each of its own sort until it is stored.
-#[derive(Clone, Copy)]
+#[derive(Clone, Copy, Default)]
 pub struct Row {
     pub at: usize,
 }
 
-#[derive(Clone, Copy)]
+// It holds no bound: document 01 names the type, and `column_a` makes one of any number; so the contracts of what stores a column state it.
+#[derive(Clone, Copy, Default)]
 pub struct Column {
     pub at: usize,
 }
@@ -86,7 +92,7 @@ pub struct Term {
 }
 
 // The running tally: entries, rows, cones and columns written so far, and the owner being written (its place in the order of the index).
-#[derive(Clone, Copy)]
+#[derive(Clone, Copy, Default)]
 pub struct Tally {
     pub entries: usize,
     pub rows: Row,
@@ -102,6 +108,20 @@ pub struct FourCounts {
     pub rows: usize,
     pub cones: usize,
     pub columns: usize,
+}
+
+// What the tally of a whole problem counts.
+impl From<Tally> for FourCounts {
+    ghost from_gives = { λ t c. c ≡ four_counts t.entries t.rows.at t.cones t.columns.at };
+
+    fn from(t: Tally) -> FourCounts {
+        FourCounts {
+            entries: t.entries,
+            rows: t.rows.at,
+            cones: t.cones,
+            columns: t.columns.at,
+        }
+    }
 }
 
 // A refusal, and its place.
@@ -128,8 +148,17 @@ pub enum Owner {
 // Refusals 28 and 29.
 #[derive(Clone, Copy, PartialEq, Eq, Debug)]
 pub enum OwnerRefusal {
-    IndexTooShort,
-    NotCovered,
+    IndexTooShort = 28,
+    NotCovered = 29,
+}
+
+impl OwnerRefusal {
+    // Document 01's number.
+    pub fn number(self) -> usize
+        ensures { result ≡ (told_owner (Err self)).number }
+    {
+        self as usize
+    }
 }
 
 pub type OwnerAnswer = Result<Owner, OwnerRefusal>;
@@ -190,6 +219,16 @@ pub struct Problem<'a> {
     pub torque: Torque<'a>,
     pub roots: Roots<'a>,
     pub pool: &'a [f64],
+}
+
+impl<'a> Problem<'a> {
+    // The objectives that count.
+    pub fn listed(&self) -> &[Objective]
+        requires { self.now.job.count ≤ most_objectives }
+        ensures { result.now ≡ take self.now.job.count self.now.objectives }
+    {
+        &self.objectives[..self.job.count]
+    }
 }
 
 // Buffers 0 to 6, and the index.

@@ -1,9 +1,10 @@
-// Tests on numbers.
+// Tests on numbers, the sum of counts, and an element of a list.
 
 #![tactic(auto)]
 
-ghost use Rattle.std.specs.Prelude.{◌≡◌, ◌&&◌};
+ghost use Rattle.std.specs.Prelude.{◌≡◌, ◌&&◌, ◌^◌, ◌<◌, get_or};
 ghost use Rattle.model.specs.Numbers.{finite};
+ghost use Rattle.model.specs.Lists.{total};
 
 // Neither NaN nor infinite.
 #[tactic(auto, using(crate::proofs::Finite::finite_lem))]
@@ -13,9 +14,24 @@ pub fn is_finite(x: f64) -> bool
     x.is_finite()
 }
 
-// Both tests pass. No branch: a scan goes on to its end anyway.
+// Both tests pass. No branch: a scan goes on to its end anyway. `&` answers in std's word for bits; that it is the `&&` of the definitions is said once, here.
 pub fn both(a: bool, b: bool) -> bool
     ensures { result ≡ (a && b) }
 {
     a & b
+}
+
+// The sum of counts.
+pub fn total(counts: &[u32]) -> usize
+    requires { total counts.now < 2 ^ 64 }
+    ensures { result ≡ total counts.now }
+{
+    counts.iter().map(|count| *count as usize).sum()
+}
+
+// Element i, or the default past the end.
+pub fn item_or<T: Copy>(xs: &[T], i: usize, default: T) -> T
+    ensures { result ≡ get_or xs.now i default }
+{
+    xs.get(i).copied().unwrap_or(default)
 }

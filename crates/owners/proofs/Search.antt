@@ -1,16 +1,21 @@
 -- What the search for the lowest owner needs, step by step.
-use Prim.Native.Nat.{ℕ, ◌+◌, ◌-◌, ◌≤◌, ◌<◌}
-use native.Mathlib.Decide.{dec_lt, ℕ_discrete}
+use Prim.Native.Nat.{ℕ, zero, suc, ◌+◌, ◌-◌, ◌≤◌, ◌<◌}
+use native.Mathlib.Decide.{dec_lt}
 use native.Mathlib.Omega.{arith}
-use mathlib.Core.Path.{◌≡◌, sym, ◌∙◌}
-use mathlib.Core.Bool.{true, false}
+use mathlib.Core.Path.{◌≡◌, refl, sym, ap, ◌∙◌}
+use mathlib.Core.Bool.{Bool, true, false, cond}
 use mathlib.Core.List.{List}
 use lib.ListN.{length}
 use lib.Dec.{ltb}
+use Rattle.std.proofs.Common.{Option, Some, None, find, add-one}
+use Rattle.std.specs.List.{range_with_len}
 use borrow.Author.Tests.{lt-ltb, le-ltb, lt-leb, le-leb}
+use Rattle.owners.specs.Lists.{list_number}
+use Rattle.owners.specs.declared.IndexList.{IndexList}
+use Rattle.owners.specs.declared.IndexList.TheVariants.{Rows, Columns}
 use Rattle.model.specs.Owners.{index_places}
-use Rattle.model.specs.OwnerAnswers.{owned_by, no_owner, in_range, within, owner_of}
-use Rattle.model.proofs.OwnersTold.{lowest_counts, not_covered}
+use Rattle.model.specs.OwnerAnswers.{owned_by, no_owner, in_range, within, lowest_owner, owner_of}
+use Rattle.model.specs.Answers.{Told}
 
 -- ---- a range: r is below it; or it is not, and the difference decides
 
@@ -28,25 +33,24 @@ range_by_difference first size r h = rw (le-leb first r h) (go (dec_lt r (first 
 
 -- ---- the search
 
--- the index is long enough, and of the owners below k none holds r
-pub record Searched (index : List ℕ) (f objectives r k : ℕ) : Type 0 where
-  pub enough : index_places objectives ≤ length index
-  pub small : f < 4
-  pub missed : (j : ℕ) → j < k → within index f r j ≡ false
+pub list_small : (l : IndexList) → list_number l < 4
+list_small Rows = omega arith
+list_small Columns = omega arith
 
-pub search_begins : (index : List ℕ) (f objectives r : ℕ) → index_places objectives ≤ length index → f < 4 → Searched index f objectives r 0
-search_begins index f objectives r h s = record { enough = h; small = s; missed = λ j l. absurd (omega arith) }
+-- what is answered of the place that `find` gives
+abbrev pub found : Option ℕ → Told
+found (Some k) = owned_by k
+found None = no_owner 29
 
-module _ {index : List ℕ} {f objectives r k : ℕ} (s : Searched index f objectives r k) where
-  pub search_on : within index f r k ≡ false → Searched index f objectives r (k + 1)
-  search_on t = record { enough = s.enough; small = s.small; missed = λ j l. go j l (ℕ_discrete k j) }
-    where
-      go : (j : ℕ) → j < k + 1 → Dec (k ≡ j) → within index f r j ≡ false
-      go j l (yes q) = rw q at t
-      go j l (no q) = s.missed j (omega arith)
+lowest_found : (holds : ℕ → Bool) (k c : ℕ) → found (find holds (range_with_len k c)) ≡ lowest_owner holds k c
+unfolding lowest_owner
+lowest_found holds k zero = refl
+lowest_found holds k (suc c) = either (holds k) ∙ ap (cond (holds k) (owned_by k)) (ap (λ (j : ℕ). found (find holds (range_with_len j c))) (add-one k) ∙ lowest_found holds (suc k) c)
+  where
+    either : (b : Bool) → found (cond b (Some k) (find holds (range_with_len (k + 1) c))) ≡ cond b (owned_by k) (found (find holds (range_with_len (k + 1) c)))
+    either true = refl
+    either false = refl
 
-  pub search_hits : k < objectives + 2 → within index f r k ≡ true → owned_by k ≡ owner_of f index objectives r
-  search_hits l t = sym (lowest_counts f index objectives r s.enough k l (record { above = omega arith; passes = t; earlier = λ j _ h. s.missed j h }))
-
-  pub search_ends : objectives + 2 ≤ k → no_owner 29 ≡ owner_of f index objectives r
-  search_ends l = sym (not_covered f index objectives r s.enough (λ j h. s.missed j (omega arith)))
+pub owner_found : (f : ℕ) (index : List ℕ) (objectives r : ℕ) → index_places objectives ≤ length index → {o : Option ℕ} → o ≡ find (within index f r) (range_with_len 0 (objectives + 2)) → found o ≡ owner_of f index objectives r
+unfolding owner_of
+owner_found f index objectives r h e = rw (le-ltb (length index) (index_places objectives) h) (ap found e ∙ lowest_found (within index f r) 0 (objectives + 2))

@@ -1,7 +1,7 @@
 -- What an accepted problem gives to the objectives' scans and writers, in the form in which they ask.
 use lib.Ieee.{nan}
-use lib.ListN.{get_or, length}
-use Rattle.model.specs.Problem.{Problem, objectives}
+use lib.ListN.{get_or}
+use Rattle.model.specs.Problem.{Problem}
 use Rattle.model.specs.declared.Objective.{Objective}
 use Rattle.model.specs.declared.Objective.TheVariants.{Time, ThermalEnergy, TotalVariationTorque, Linear}
 use Rattle.model.proofs.Usable.{Usable}
@@ -19,7 +19,3 @@ module _ (p : Problem) (u : Usable p) where
 
   pub all_ready : AllReady (lends p.path p.thermal p.torque p.pool) p.slots p.count
   all_ready i l = ready (get_or p.slots i (Time nan)) (u.slot i l)
-
-  -- the same of the objectives as a list
-  pub objectives_ready : AllReady (lends p.path p.thermal p.torque p.pool) (objectives p) (length (objectives p))
-  objectives_ready i l = ready (get_or (objectives p) i (Time nan)) (u.objective i)

@@ -10,52 +10,22 @@ ghost use Rattle.model.specs.Verdicts.{accepted};
 ghost use Rattle.buffers.specs.Bounds.{program_room};
 ghost use Rattle.passes.specs.Program.{start_at, Completes};
 
-use blocks::{objective_blocks, standard_block};
-use buffers::{Path, put_owner};
-use finite_objectives::ab_costs;
+use blocks::{linear_in, objective_blocks, objectives_in, standard_block, standard_in};
+use buffers::put_owner;
+use finite_objectives::{ab_costs, objectives};
 use finite_standard::standard_rows;
-use linear::LinearInput;
-use model::{Buffers, Column, Problem, Row, Tally};
+use model::{Buffers, Column, Problem, Tally};
 use numbers::both;
-use objectives::ObjectiveInput;
-use standard::StandardInput;
 
 // Whether every number to be written is finite (20), told from grid and tables: a number that stands in several rows is not tested for each of them.
 pub fn every_number(problem: &Problem) -> bool
     requires { refusal (problem_of problem.now) ≡ accepted }
     ensures { result ≡ every_finite (problem_of problem.now) }
 {
-    let job = problem.job;
-    let path = Path {
-        grid: problem.grid,
-        ends: job.ends,
-    };
-    let objectives = &problem.objectives[..job.count];
-    let linear = LinearInput {
-        path,
-        roots: problem.roots,
-        pool: problem.pool,
-    };
-    let one = ab_costs(&linear, objectives);
-    let input = StandardInput {
-        path,
-        boundary: job.boundary,
-        start: job.start,
-        end: job.end,
-        amax: problem.amax,
-        acceleration: problem.acceleration,
-        jerk: problem.jerk,
-    };
-    let two = standard_rows(input);
-    let own = ObjectiveInput {
-        path,
-        thermal: problem.thermal,
-        torque: problem.torque,
-        d: job.d,
-        pool: problem.pool,
-    };
-    let three = finite_objectives::objectives(&own, objectives);
-    both(one, both(two, three))
+    let costs = ab_costs(&linear_in(problem));
+    let rows = standard_rows(standard_in(problem));
+    let own = objectives(&objectives_in(problem));
+    both(costs, both(rows, own))
 }
 
 // The tally before the standard rows, when the cost of so many columns is written.
@@ -63,11 +33,8 @@ fn before_rows(columns: Column) -> Tally
     ensures { result ≡ start_at columns.at }
 {
     Tally {
-        entries: 0,
-        rows: Row { at: 0 },
-        cones: 0,
         columns,
-        owner: 0,
+        ..Tally::default()
     }
 }
 

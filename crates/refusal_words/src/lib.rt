@@ -49,30 +49,23 @@ fn placed(out: &mut Writer, text: &[u8], k: usize)
     out.decimal(k as u64);
 }
 
-// Where to look; k is the refusal's place. Any number is answered.
+// Where to look; k is the refusal's place. Any number is answered. Each line says the words and whether the place follows them; a second table for that would tell each rule twice.
 #[tactic(auto, unfolding(crate::specs::Refusals::place))]
 fn place(out: &mut Writer, number: usize, k: usize)
     ensures { says (place number k) out }
 {
     match number {
         1 => placed(out, b"boundary number ", k),
-        2 => placed(out, b"end ", k),
-        3 => placed(out, b"end ", k),
-        4 => out.words(b"the grid"),
-        5 => out.words(b"the grid"),
-        6 => placed(out, b"station ", k),
-        7 => placed(out, b"station ", k),
+        2 | 3 | 18 => placed(out, b"end ", k),
+        4 | 5 => out.words(b"the grid"),
+        6 | 7 => placed(out, b"station ", k),
         8 => out.words(b"d"),
-        9 => out.words(b"the objectives"),
-        10 => out.words(b"the objectives"),
-        11 => placed(out, b"objective ", k),
-        12 => placed(out, b"objective ", k),
-        13 => placed(out, b"objective ", k),
+        9 | 10 => out.words(b"the objectives"),
+        11..=13 => placed(out, b"objective ", k),
         14 => out.words(b"N0 and N1"),
         15 => placed(out, b"table ", k),
         16 => placed(out, b"tables 0 and 1, station ", k),
         17 => placed(out, b"bound ", k),
-        18 => placed(out, b"end ", k),
         19 => placed(out, b"buffer ", k),
         20 => out.words(b"the grid, the tables and the objectives"),
         28 => out.words(b"the index"),

@@ -4,7 +4,7 @@
 // run with `cut off`. A read or a write that fails ends the run with its error.
 #![tactic(auto)]
 
-ghost use Rattle.std.specs.Prelude.{◌≡◌, ◌-◌, ◌≤◌, ◌<◌, length, take, drop, IfOk, IfSome};
+ghost use Rattle.std.specs.Prelude.{◌≡◌, ◌+◌, ◌-◌, ◌≤◌, ◌<◌, length, take, drop, IfErr, IfOk, IfSome};
 
 use std::io;
 use std::io::Read;
@@ -24,12 +24,20 @@ struct Piece {
     rest: usize,
 }
 
-// A case that is whole, and where the next one begins. Every whole case agrees or not, and no other field depends on it: a bool says that as plainly as an enum.
+// A case that is whole, and where the next one begins. Not the `Replayed` of replay_list, which also tells of a case that is not whole. Every whole case agrees or not, and no other field depends on it: a bool says that as plainly as an enum.
 #[derive(Clone, Copy)]
 struct Whole {
     group: u8,
     agrees: bool,
     next: usize,
+}
+
+// The bytes at hand, which are the first `held` of the list. The array is its own, since nothing here is on a heap.
+#[derive(Drop)]
+struct Pending {
+    list: [u8; 65536],
+    held: usize,
+    ghost within: { held ≤ length list },
 }
 
 impl Tally {
@@ -105,53 +113,62 @@ fn replay_piece(rt: &impl Print, s: &[u8], before: Tally) -> io::Result<Piece>
     })
 }
 
-// After the input's end: the last group's line, or that a case is cut off.
-fn print_end(rt: &impl Print, tally: Tally, held: usize) -> io::Result<()> {
-    if held == 0 {
-        tally.print(rt)
-    } else {
-        rt.write_all(b"cut off\n")
+impl Pending {
+    fn new() -> Pending
+        ensures { result.held ≡ 0 }
+    {
+        Pending {
+            list: [0; 65536],
+            held: 0,
+        }
+    }
+
+    // Reads on behind the bytes at hand, and answers how many have come.
+    fn read_on<R: Read>(&mut self, reader: &mut R) -> io::Result<usize>
+        ensures held_value { IfOk result (λ n. self.new.held ≡ self.old.held + n) }
+        ensures held_unchanged { IfErr result (λ _. self.new.held ≡ self.old.held) }
+        ensures list_value { take self.old.held self.new.list ≡ take self.old.held self.old.list }
+    {
+        let n = reader.read(&mut self.list[self.held..])?;
+        self.held += n;
+        Ok(n)
+    }
+
+    // Replays the whole cases at hand, and moves the rest to the front.
+    fn replay_held(&mut self, rt: &impl Print, tally: Tally) -> io::Result<Tally>
+        ensures held_falls { IfOk result (λ _. self.new.held ≤ self.old.held) }
+        ensures list_value { IfOk result (λ _. take self.new.held self.new.list ≡ drop (self.old.held - self.new.held) (take self.old.held self.old.list)) }
+        ensures unchanged { IfErr result (λ _. self.new ≡ self.old) }
+    {
+        let piece = replay_piece(rt, &self.list[..self.held], tally)?;
+        self.list.copy_within(self.held - piece.rest..self.held, 0);
+        self.held = piece.rest;
+        Ok(piece.tally)
+    }
+
+    // After the input's end: the last group's line, or that a case is cut off.
+    fn print_end(&self, rt: &impl Print, tally: Tally) -> io::Result<()> {
+        if self.held == 0 {
+            tally.print(rt)
+        } else {
+            rt.write_all(b"cut off\n")
+        }
     }
 }
 
-// Reads on behind the `held` bytes at hand, and answers where what is at hand then ends.
-fn read_on<R: Read>(reader: &mut R, list: &mut [u8], held: usize) -> io::Result<usize>
-    requires { held ≤ length list.old }
-    ensures end_bounds { IfOk result (λ end. (held ≤ end) × (end ≤ length list.new)) }
-    ensures list_value { take held list.new ≡ take held list.old }
-{
-    let n = reader.read(&mut list[held..])?;
-    Ok(held + n)
-}
-
-// Replays the whole cases before `end`, and moves the rest to the front.
-fn replay_held(rt: &impl Print, list: &mut [u8], end: usize, tally: Tally) -> io::Result<Piece>
-    requires { end ≤ length list.old }
-    ensures rest_le_end { IfOk result (λ p. p.rest ≤ end) }
-    ensures list_value { IfOk result (λ p. take p.rest list.new ≡ drop (end - p.rest) (take end list.old)) }
-{
-    let piece = replay_piece(rt, &list[..end], tally)?;
-    list.copy_within(end - piece.rest..end, 0);
-    Ok(piece)
-}
-
 // A proved loop has to end, and nothing says that an input does: the turns are more than any run takes.
-fn replay<R: Read>(rt: &impl Print, reader: &mut R, list: &mut [u8]) -> io::Result<()> {
+fn replay<R: Read>(rt: &impl Print, reader: &mut R) -> io::Result<()> {
     let mut tally = Tally::new(0);
-    let mut held = 0;
+    let mut pending = Pending::new();
     for _ in 0..u64::MAX {
-        let end = read_on(reader, list, held)?;
-        if end == held {
-            return print_end(rt, tally, held);
+        if pending.read_on(reader)? == 0 {
+            return pending.print_end(rt, tally);
         }
-        let piece = replay_held(rt, list, end, tally)?;
-        tally = piece.tally;
-        held = piece.rest;
+        tally = pending.replay_held(rt, tally)?;
     }
     Ok(())
 }
 
 fn main(rt: HostRuntime) -> io::Result<()> {
-    let mut list = [0u8; 65536];
-    replay(&rt, &mut rt.stdin(), &mut list)
+    replay(&rt, &mut rt.stdin())
 }

@@ -6,6 +6,7 @@ use mathlib.Core.Path.{◌≡◌, refl, ap, sym, subst, ◌∙◌}
 use mathlib.Core.Bool.{Bool, true, false, cond}
 use mathlib.Core.List.{List, [], ◌∷◌}
 use lib.Dec.{T}
+use lib.Ieee.{binary64, of_bits, to_bits}
 use lib.ListN.{length, get_or, take, drop, set, replicate, length-take, length-drop}
 use lib.Seq.{ext_get_or, get_or-take, get_or-drop, get_or-set_same, get_or-set_other}
 use native.Mathlib.Omega.{arith}
@@ -136,3 +137,8 @@ module _ {A : Type 0} where
   take_replicate zero m a h = refl
   take_replicate (suc n) zero a h = absurd (omega arith)
   take_replicate (suc n) (suc m) a h = ap (λ (l : List A). a ∷ l) (take_replicate n m a (omega arith))
+
+-- the bits of the float that the buffers hold before a call
+pub float_before : to_bits binary64 (of_bits binary64 13876516240719085568) ≡ 13876516240719085568
+unfolding to_bits of_bits
+float_before = refl

@@ -60,6 +60,7 @@ pub fn held_at(at: usize, counts: AnswerRecord, written: usize) -> Held
 impl Arrays {
     // Whether the arrays hold what the list says from a place on, for the counts of an answer and so
     // many places of the index.
+    #[tactic(auto, using(crate::proofs::Laws::float_before))]
     pub fn agree(&self, rows: Place<'_>, counts: AnswerRecord, written: usize) -> bool
         ensures { result ≡ true → BuffersHold rows.entry.list.now rows.entry.at counts written places_here (held_in self.now) }
     {

@@ -71,6 +71,7 @@ fn index_written(count: usize, answer: AnswerRecord) -> usize
     }
 }
 
+// The fact on the lengths stays a `requires`: with a struct that holds their place and the fact, it would have to be said here that this place is the case's own.
 fn assembly_agrees(case: &Case<'_>, decoded: &Decoded) -> bool
     requires { LentFit case.now.start.list.now case.now.places.lengths }
     ensures { result ≡ true → ResultAgrees case.now.start.list.now case.now.places decoded.now.job.count (item_at case.now.start.list.now case.now.places.lengths) (assembled decoded.now.job decoded.now.records (problem_of decoded.now) (lent_buffers case.now.start.list.now case.now.places.lengths)) }
@@ -83,18 +84,10 @@ fn assembly_agrees(case: &Case<'_>, decoded: &Decoded) -> bool
 }
 
 // Whether the buffers' lengths are within the arrays here.
-// Eight tests: `all` over their numbers was tried, and the proof didn't close.
 fn buffers_fit(lengths: Place<'_>) -> bool
     ensures { result ≡ true → LentFit lengths.entry.list.now lengths.entry.at }
 {
-    lengths.item(0) <= 128
-        && lengths.item(1) <= 128
-        && lengths.item(2) <= 128
-        && lengths.item(3) <= 128
-        && lengths.item(4) <= 128
-        && lengths.item(5) <= 128
-        && lengths.item(6) <= 128
-        && lengths.item(7) <= 160
+    (0..7).all(|k| lengths.item(k) <= 128) && lengths.item(7) <= 160
 }
 
 // Whether the case is within the arrays here.

@@ -2,22 +2,11 @@
 // and all later places with what the buffer held before the call.
 ghost use Rattle.std.specs.Prelude.{◌≡◌, ℕ, true, List, length};
 ghost use Rattle.std.specs.Float.{binary64, nan};
-ghost use Rattle.std.specs.Float.Ieee.{to_bits};
+ghost use Rattle.std.specs.Float.Ieee.{of_bits, to_bits};
 ghost use Rattle.model.specs.Verdicts.{itself};
 ghost use Rattle.replay_list.specs.File.{byte_at, short_at, long_at, expected, Holds};
 
 use crate::file::Place;
-
-// What the buffers hold before a call, and the bits of that float.
-pub const NUMBER: u32 = 2779096485;
-
-pub const FLOAT: f64 = -1234.5;
-
-const BITS: u64 = 13876516240719085568;
-
-pub const BYTE: u8 = 165;
-
-pub const LONG: usize = 13876516240719085568;
 
 // What a buffer has at a place: a number, or a float by its bits.
 pub trait Element: Copy {
@@ -27,18 +16,21 @@ pub trait Element: Copy {
 
     ghost WIDTH: { ℕ };
 
-    ghost before: { ℕ };
+    ghost BEFORE: { Self };
 
     // How many bytes of the list it takes.
     const WIDTH: usize;
+
+    // What a buffer holds before a call.
+    const BEFORE: Self;
 
     // Whether it is what the list has at a place.
     fn is_at(self, place: Place<'_>) -> bool
         ensures { result ≡ true → number self ≡ read place.entry.list.now place.entry.at };
 
-    // Whether it is what a buffer holds before a call.
+    // Whether it is that.
     fn is_before(self) -> bool
-        ensures { result ≡ true → number self ≡ before };
+        ensures { result ≡ true → number self ≡ number BEFORE };
 }
 
 impl Element for u8 {
@@ -48,16 +40,18 @@ impl Element for u8 {
 
     ghost WIDTH = { 1 };
 
-    ghost before = { 165 };
+    ghost BEFORE = { 165 };
 
     const WIDTH: usize = 1;
+
+    const BEFORE: u8 = 165;
 
     fn is_at(self, place: Place<'_>) -> bool {
         self == place.byte()
     }
 
     fn is_before(self) -> bool {
-        self == BYTE
+        self == Self::BEFORE
     }
 }
 
@@ -68,16 +62,18 @@ impl Element for u32 {
 
     ghost WIDTH = { 4 };
 
-    ghost before = { 2779096485 };
+    ghost BEFORE = { 2779096485 };
 
     const WIDTH: usize = 4;
+
+    const BEFORE: u32 = 2779096485;
 
     fn is_at(self, place: Place<'_>) -> bool {
         self == place.short()
     }
 
     fn is_before(self) -> bool {
-        self == NUMBER
+        self == Self::BEFORE
     }
 }
 
@@ -88,16 +84,18 @@ impl Element for usize {
 
     ghost WIDTH = { 8 };
 
-    ghost before = { 13876516240719085568 };
+    ghost BEFORE = { 13876516240719085568 };
 
     const WIDTH: usize = 8;
+
+    const BEFORE: usize = 13876516240719085568;
 
     fn is_at(self, place: Place<'_>) -> bool {
         self as u64 == place.long()
     }
 
     fn is_before(self) -> bool {
-        self == LONG
+        self == Self::BEFORE
     }
 }
 
@@ -108,16 +106,20 @@ impl Element for f64 {
 
     ghost WIDTH = { 8 };
 
-    ghost before = { 13876516240719085568 };
+    ghost BEFORE = { of_bits binary64 13876516240719085568 };
 
     const WIDTH: usize = 8;
+
+    const BEFORE: f64 = -1234.5;
 
     fn is_at(self, place: Place<'_>) -> bool {
         has_bits(self, place.long())
     }
 
+    #[tactic(auto, using(crate::proofs::Laws::float_before))]
     fn is_before(self) -> bool {
-        has_bits(self, BITS)
+        // The bits of BEFORE.
+        has_bits(self, 13876516240719085568)
     }
 }
 
@@ -131,7 +133,7 @@ fn has_bits(x: f64, bits: u64) -> bool
 // Whether x is what a buffer of n written places, which the list has from a place on, holds at place i.
 #[tactic(auto, unfolding(crate::specs::File::expected))]
 fn is_expected<T: Element>(x: T, from: Place<'_>, n: usize, i: usize) -> bool
-    ensures { result ≡ true → T.number x ≡ expected T.read T.WIDTH T.before from.entry.list.now from.entry.at n i }
+    ensures { result ≡ true → T.number x ≡ expected T.read T.WIDTH (T.number T.BEFORE) from.entry.list.now from.entry.at n i }
 {
     if i < n {
         x.is_at(from.past(i, T::WIDTH))
@@ -141,7 +143,7 @@ fn is_expected<T: Element>(x: T, from: Place<'_>, n: usize, i: usize) -> bool
 }
 
 pub fn agrees<T: Element>(found: &[T], from: Place<'_>, n: usize) -> bool
-    ensures { result ≡ true → (d : T) → Holds T.number d (expected T.read T.WIDTH T.before from.entry.list.now from.entry.at n) (length found.now) found.now }
+    ensures { result ≡ true → (d : T) → Holds T.number d (expected T.read T.WIDTH (T.number T.BEFORE) from.entry.list.now from.entry.at n) (length found.now) found.now }
 {
     found
         .iter()

@@ -9,7 +9,9 @@ use copp3_c::ObjectiveRecords;
 use model::Job;
 
 // The job and the records, all floats with where each list of them begins and the last ends, and the
-// numbers of tables 0 and 1, of which table 0 ends at `split` and table 1 at `end`.
+// numbers of tables 0 and 1, of which table 0 ends at `split` and table 1 at `end`. The arrays are the
+// case's own, since nothing here is on a heap, and a struct cannot lend parts of itself to itself: so
+// the parts go by where they begin and end, and are lent by the methods.
 #[derive(Clone, Copy)]
 pub struct Decoded {
     pub job: Job,

@@ -34,7 +34,7 @@ pub fn past(at: usize, n: usize, width: usize) -> usize
 pub fn byte_at(s: &[u8], at: usize) -> u8
     ensures { result ≡ get_or s.now at 0 }
 {
-    s.get(at).copied().unwrap_or(0)
+    numbers::item_or(s, at, 0)
 }
 
 // The float that a pattern of bits stands for. Every NaN's pattern is the one NaN.
@@ -42,7 +42,7 @@ pub fn float_of(bits: u64) -> f64
     ensures { result ≡ of_bits binary64 bits }
 {
     if 9218868437227405312 < bits % 9223372036854775808 {
-        0.0 / 0.0
+        f64::NAN
     } else {
         f64::from_bits(bits)
     }

@@ -91,6 +91,8 @@ pub fn starts_at(start: Place<'_>) -> [usize; 19]
     ensures { result ≡ starts_at start.entry.list.now start.entry.at }
 {
     let mut starts = [0; 19];
+    // A range: each start is found from the one before it, which a `scan` or a `from_fn` would have to
+    // carry by hand.
     for k in 0..18 {
         starts[k + 1] = past(starts[k], floats_of(start, k), 1);
     }
@@ -143,16 +145,10 @@ pub fn read_floats(grid: Place<'_>, tables: usize, first: usize) -> [f64; 128]
     from_fn(|i| float_number(grid, tables, first, i))
 }
 
-fn number_at(from: Place<'_>, i: usize) -> u32
-    ensures { result ≡ item_at from.entry.list.now from.entry.at i }
-{
-    from.past(i, 4).short()
-}
-
 pub fn read_numbers(from: Place<'_>) -> [u32; 64]
     ensures { result ≡ each (item_at from.entry.list.now from.entry.at) 64 }
 {
-    from_fn(|i| number_at(from, i))
+    from_fn(|i| from.past(i, 4).short())
 }
 
 #[tactic(auto, unfolding(crate::specs::Format::record_at))]

@@ -9,7 +9,7 @@ use model::Buffers;
 use std::io;
 use text::Writer;
 
-// Assembles problem number i and writes its page at the start of `out`.
+// Assembles problem number i, as shown_problems has it, and writes its page at the start of `out`. It answers the length: the caller lends the buffer, and writes what is before that length.
 fn page_at(i: usize, out: &mut [u8]) -> usize
     ensures shown { Shown i out.old out.new result }
     ensures in_bounds { result ≤ length out.new }

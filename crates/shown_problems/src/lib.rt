@@ -1,4 +1,5 @@
 // The problems that the program `show` assembles, by their numbers: 0 is document 01's case A, 1 has all four objectives, 2 and any other is case L.
+// Every public function takes any number, from the start. An enum of the three problems would need a function from any number to it, and a method beside each function here.
 #![tactic(auto)]
 
 ghost use Rattle.std.specs.Prelude.{◌≡◌};
@@ -68,7 +69,7 @@ fn job_with(maximum: f64, stationary: usize, count: usize) -> Job
             minimum: 0.0,
         },
         end: Bounds {
-            maximum: 1.0 / 0.0,
+            maximum: f64::INFINITY,
             minimum: 0.0,
         },
         d: 1,
@@ -85,7 +86,7 @@ fn three_stations(last: f64, out: &mut Buffers) -> Answer
     ensures same { SameBuffers out.old out.new }
     ensures answer { answered result (buffers_of out.new) ≡ assembly (three_stations last) (buffers_of out.old) }
 {
-    let infinity = 1.0 / 0.0;
+    let infinity = f64::INFINITY;
     let grid = [0.0, 1.0, last];
     let counts: [u32; 3] = [0; 3];
     let amax = [infinity; 3];
@@ -134,7 +135,7 @@ fn small(out: &mut Buffers) -> Answer
     ensures same { SameBuffers out.old out.new }
     ensures answer { answered result (buffers_of out.new) ≡ assembly small (buffers_of out.old) }
 {
-    let infinity = 1.0 / 0.0;
+    let infinity = f64::INFINITY;
     let grid = [0.0, 1.0, 2.5, 4.0, 5.0];
     let counts: [u32; 5] = [0, 0, 1, 0, 0];
     let amax = [infinity, infinity, 4.0, infinity, infinity];
@@ -185,6 +186,7 @@ pub fn assemble(i: usize, out: &mut Buffers) -> Answer
     ensures same { SameBuffers out.old out.new }
     ensures answer { answered result (buffers_of out.new) ≡ assembly (problem_at i) (buffers_of out.old) }
 {
+    // Each of the three makes its own arrays and lends them to the assembly, so what is chosen is a call.
     match i {
         0 => three_stations(2.0, out),
         1 => small(out),

@@ -6,25 +6,25 @@ use mathlib.Core.List.{List}
 use lib.ListN.{get_or}
 use Rattle.model.specs.Numbers.{at}
 use Rattle.model.specs.Lists.{sum_over}
-use Rattle.model.specs.Problem.{Path, Limits, n, m, flag}
+use Rattle.model.specs.Problem.{Path, Limits, n, m, stop, flag}
 use Rattle.model.specs.Counts.{upper, uppers, acc_inside, jerk_inside}
 use Rattle.sizing.proofs.Sums.{sum_twice}
 
 module _ (q : Path) (span : q.N0 + q.N1 < n q) where
-  inner : n q - q.N1 - (q.N0 + 1) ≡ m q - 1
-  unfolding m
+  inner : stop q - (q.N0 + 1) ≡ m q - 1
+  unfolding m stop
   inner = omega arith
 
   moves : 0 < m q
   unfolding m
   moves = omega arith
 
-  stop : q.N0 + m q ≡ n q - q.N1
-  unfolding m
-  stop = omega arith
+  at_stop : q.N0 + m q ≡ stop q
+  unfolding m stop
+  at_stop = omega arith
 
   abbrev between : (ℕ → ℕ) → ℕ
-  between f = sum_over f (q.N0 + 1) (n q - q.N1 - (q.N0 + 1))
+  between f = sum_over f (q.N0 + 1) (stop q - (q.N0 + 1))
 
   pub acc_is : (acc : List ℕ) {x : ℕ} → x ≡ between (λ k. get_or acc k 0) → x ≡ acc_inside q acc
   unfolding acc_inside
@@ -35,6 +35,6 @@ module _ (q : Path) (span : q.N0 + q.N1 < n q) where
   unfolding uppers
   uppers_is l e f g = rw (e, f, g, inner)
 
-  pub jerk_is : (jerk : List ℕ) {x y : ℕ} → x ≡ between (λ k. get_or jerk k 0) → y ≡ get_or jerk q.N0 0 + x + x + get_or jerk (n q - q.N1) 0 → y ≡ jerk_inside q jerk
+  pub jerk_is : (jerk : List ℕ) {x y : ℕ} → x ≡ between (λ k. get_or jerk k 0) → y ≡ get_or jerk q.N0 0 + x + x + get_or jerk (stop q) 0 → y ≡ jerk_inside q jerk
   unfolding jerk_inside
-  jerk_is jerk e f = f ∙ rw (e, inner, ← stop) (sym (sum_twice (λ k. get_or jerk k 0) q.N0 (m q) moves))
+  jerk_is jerk e f = f ∙ rw (e, inner, ← at_stop) (sym (sum_twice (λ k. get_or jerk k 0) q.N0 (m q) moves))

@@ -26,6 +26,7 @@ fn sum(a: FourCounts, b: FourCounts) -> FourCounts
     }
 }
 
+// Each clause is of any p measured so, since `count` also promises what does not depend on tables 3 to 15; and each `Few` has another bound. So neither is a ghost field.
 impl Measures {
     // Before the objectives.
     fn standard(self) -> FourCounts
@@ -39,7 +40,7 @@ impl Measures {
         }
     }
 
-    // The root stage, if there is one.
+    // The root stage, if there is one: a test, as document 01's formula has it, and no value goes with it.
     fn root(self, present: bool) -> FourCounts
         ensures { ((p : Problem) → MeasuredOf p self → present ≡ has_root p → result ≡ root_counts p) × Few root_most result }
     {

@@ -18,6 +18,8 @@ ghost use Rattle.checks.specs.Fitting.{Fits};
 ghost use Rattle.sizing.specs.Bounds.{acc_most, jerk_most};
 ghost use Rattle.sizing.specs.Measured.{MeasuredOf};
 
+use buffers::{path_in, positive_ends};
+use columns::length_xi;
 pub use measures::Measures;
 use model::{Answer, Bounds, FourCounts, Job, Problem, Rule, Verdict};
 use numbers::is_finite;
@@ -52,6 +54,7 @@ fn sums_inside(amax: &[f64], acc_rows: &[u32], jerk_rows: &[u32], from: usize, t
     let mut uppers: usize = 0;
     let mut acc: usize = 0;
     let mut jerk: usize = 0;
+    // Over numbers: three tables at one station.
     for k in from..to {
         uppers += upper_of(amax[k]);
         acc += acc_rows[k] as usize;
@@ -71,6 +74,7 @@ fn jerk_inside(jerk_rows: &[u32], first: usize, last: usize, between: usize) -> 
 }
 
 // The numbers of a problem as the checks leave it.
+#[tactic(auto, unfolding(model::specs::Problem::m, model::specs::Problem::ends, model::specs::Problem::L, model::specs::Problem::stop))]
 fn measure(problem: &Problem) -> Measures
     requires { Fits (problem_of problem.now) }
     ensures { MeasuredOf (problem_of problem.now) result }
@@ -82,26 +86,24 @@ fn measure(problem: &Problem) -> Measures
         d,
         ..
     } = problem.job;
-    let n = problem.grid.len() - 1;
-    let last = n - ends.n1;
+    let path = path_in(problem);
+    let stop = path.stop();
     let jerk_rows = problem.jerk.rows;
     let inside = sums_inside(
         problem.amax,
         problem.acceleration.rows,
         jerk_rows,
         ends.n0 + 1,
-        last,
+        stop,
     );
-    let jerk = jerk_inside(jerk_rows, ends.n0, last, inside.jerk);
+    let jerk = jerk_inside(jerk_rows, ends.n0, stop, inside.jerk);
     let uppers = end_upper(ends.n0, start) + end_upper(ends.n1, end) + inside.uppers;
-    let p = ends.n0.min(1) + ends.n1.min(1);
-    let l = n + 1 - ends.n0.max(1) - ends.n1.max(1);
     Measures {
         d,
-        n,
-        m: n - ends.n0 - ends.n1,
-        ends: p,
-        l,
+        n: path.last(),
+        m: path.moving(),
+        ends: positive_ends(ends),
+        l: length_xi(path),
         uppers,
         acc: inside.acc,
         jerk,
@@ -115,7 +117,7 @@ pub fn count(problem: &Problem) -> FourCounts
     ensures others { (t3 t4 t5 t6 t7 t8 t9 t10 t11 t12 t13 t14 t15 pool : List Float) → result ≡ counts (with_tables problem.now.job problem.now.objectives problem.now.grid.now problem.now.acceleration.rows.now problem.now.jerk.rows.now problem.now.amax.now t3 t4 t5 t6 t7 t8 t9 t10 t11 t12 t13 t14 t15 pool) }
 {
     let measures = measure(problem);
-    measures.counted(&problem.objectives[..problem.job.count])
+    measures.counted(problem.listed())
 }
 
 // The first refusal of a problem, or its four counts.

@@ -14,7 +14,7 @@ ghost use Rattle.buffers.specs.Paths.{path_of};
 ghost use Rattle.sqrt_a.specs.Bands.{root_bands};
 
 use buffers::Path;
-use columns::{column_a, column_xi};
+use columns::{column_a, column_xi, first_xi};
 use model::{Buffers, ConeKind, Objective, Tally, Term};
 use objective_kinds::has_root;
 
@@ -23,7 +23,7 @@ fn root_rows(t: Tally, out: &mut Buffers, path: Path, j: usize) -> Tally
     requires { Room t 3 × (max path.ends.n0 1 + j < length path.grid.now) }
     ensures { Wrote t out.old result out.new (root_bands (path_of path.entry) j) 3 }
 {
-    let a = column_a(path.ends.n0.max(1) + j);
+    let a = column_a(first_xi(path) + j);
     let u = buffers::row(t, out, 0.25, [Term { col: a, v: -1.0 }]);
     let u = buffers::row(u, out, -0.25, [Term { col: a, v: -1.0 }]);
     let xi = column_xi(path.grid, j);
@@ -47,6 +47,7 @@ fn root_cones(t: Tally, out: &mut Buffers, path: Path) -> Tally
 {
     let count = columns::length_xi(path);
     let mut u = t;
+    // Over numbers: a cone is told by the number of its xi. Each turn is one call: see crate buffers.
     for i in 0..count {
         u = root_cone(u, out, path, i);
     }

@@ -1,9 +1,9 @@
-// Each stage is lent the running tally and moves it forward: a thin function after the by-value core, the form that document 01 names. The work is done by the function of the
-// stage's own crate.
+// Each stage is lent the running tally and moves it forward: a thin function after the by-value core, the form that document 01 names.
+// The work is done by the function of the stage's own crate.
 
 #![tactic(auto)]
 
-ghost use Rattle.std.specs.Prelude.{◌*◌, ◌+◌, ◌^◌, ◌≤◌, length, cond, ◌≡◌, All};
+ghost use Rattle.std.specs.Prelude.{◌*◌, ◌+◌, ◌^◌, ◌≤◌, length, cond};
 ghost use Rattle.model.specs.Problem.{n, some, uses_root};
 ghost use Rattle.model.specs.Program.{nothing};
 ghost use Rattle.model.specs.Standard.{root_stage};
@@ -13,15 +13,15 @@ ghost use Rattle.buffers.specs.Buffers.{Closed, Builds, FillsCost};
 ghost use Rattle.buffers.specs.Lent.{RoomAll};
 ghost use Rattle.buffers.specs.Paths.{path_of};
 ghost use Rattle.acc_jerk.specs.Tables.{Few};
-ghost use Rattle.linear.specs.Parts.{FitsIn, cost_in};
+ghost use Rattle.linear.specs.Parts.{cost_in};
 ghost use Rattle.standard.specs.Input.{cones_of};
 ghost use Rattle.torque.specs.Tables.{tables_of};
 
 use buffers::Path;
-use linear::LinearInput;
+use linear::LinearCosts;
 use model::{Buffers, Objective, Tally};
 use standard::StandardInput;
-use torque::ScaledTorque;
+use torque::{ScaledTorque, ThermalObjective};
 
 // The standard rows, modules 2 to 4.
 pub fn standard_rows(t: &mut Tally, out: &mut Buffers, input: StandardInput)
@@ -40,11 +40,11 @@ pub fn root_stage(t: &mut Tally, out: &mut Buffers, path: Path, objectives: &[Ob
 }
 
 // Linear: the cost of the a and b columns, before all blocks.
-pub fn linear(t: &mut Tally, out: &mut Buffers, input: &LinearInput, objectives: &[Objective])
-    requires { (t.old.columns.at + 2 * length input.now.path.grid.now ≤ 2 ^ 32) × All (FitsIn input.now) objectives.now }
-    ensures { FillsCost t.old out.old t.new out.new (cost_in input.now objectives.now) 0 (2 * (n (path_of input.now.path) + 1)) }
+pub fn linear(t: &mut Tally, out: &mut Buffers, costs: &LinearCosts)
+    requires { t.old.columns.at + 2 * length costs.now.input.path.grid.now ≤ 2 ^ 32 }
+    ensures { FillsCost t.old out.old t.new out.new (cost_in costs.now.input costs.now.objectives.now) 0 (2 * (n (path_of costs.now.input.path) + 1)) }
 {
-    *t = linear::ab_costs(*t, out, input, objectives);
+    *t = linear::ab_costs(*t, out, costs);
 }
 
 // Time.
@@ -56,17 +56,11 @@ pub fn time(t: &mut Tally, out: &mut Buffers, path: Path, weight: f64)
 }
 
 // ThermalEnergy.
-pub fn thermal_energy(
-    t: &mut Tally,
-    out: &mut Buffers,
-    torque: ScaledTorque,
-    thermal: &[f64],
-    weight: f64,
-)
-    requires { RoomAll t.old (thermal_room (length torque.path.grid.now)) × (length thermal.now ≡ length torque.path.grid.now) }
-    ensures { Builds t.old out.old t.new out.new (thermal_block (path_of torque.entry.path) (tables_of torque.entry) thermal.now weight torque.entry.scales.now t.old.columns.at) (thermal_room (length torque.entry.path.grid.now)) }
+pub fn thermal_energy(t: &mut Tally, out: &mut Buffers, objective: ThermalObjective)
+    requires { RoomAll t.old (thermal_room (length objective.torque.path.grid.now)) }
+    ensures { Builds t.old out.old t.new out.new (thermal_block (path_of objective.entry.torque.path) (tables_of objective.entry.torque) objective.entry.thermal.now objective.entry.weight objective.entry.torque.scales.now t.old.columns.at) (thermal_room (length objective.entry.torque.path.grid.now)) }
 {
-    *t = thermal_energy::clarabel_objective_thermal_energy_copp3(*t, out, torque, thermal, weight);
+    *t = thermal_energy::clarabel_objective_thermal_energy_copp3(*t, out, objective);
 }
 
 // TotalVariationTorque.

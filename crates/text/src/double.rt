@@ -5,7 +5,7 @@ ghost use Rattle.text.specs.Number.{minus, magnitude, nearest, fraction, sign, n
 
 use crate::Writer;
 
-// Whether x is below 0 or −0. Not `f64::is_sign_negative`: it asks of its caller that x is no NaN.
+// Whether x is −0 or a finite number below 0: 1 / x is below 0 at these alone, and at −∞ it is −0. Not `f64::is_sign_negative`: it asks of its caller that x is no NaN.
 pub fn minus(x: f64) -> bool
     ensures { result ≡ minus x }
 {

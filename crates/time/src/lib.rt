@@ -14,7 +14,7 @@ ghost use Rattle.buffers.specs.Paths.{path_of};
 ghost use Rattle.time.specs.Bands.{time_bands};
 
 use buffers::Path;
-use columns::column_xi;
+use columns::{column_xi, first_xi};
 use model::{Buffers, Column, ConeKind, Tally, Term};
 
 // The rows of a Time cone.
@@ -49,6 +49,7 @@ fn time_cones(t: Tally, out: &mut Buffers, path: Path, c: Column) -> Tally
 {
     let count = columns::length_xi(path);
     let mut u = t;
+    // Over numbers: a cone is told by the number of its xi. Each turn is one call: see crate buffers.
     for i in 0..count {
         u = time_cone(u, out, path, c, i);
     }
@@ -84,7 +85,7 @@ fn time_costs(t: Tally, out: &mut Buffers, path: Path, weight: f64) -> Tally
     ensures { FillsCost t out.old result out.new (λ j. weight ⊗ at (time_weights (path_of path.entry)) (skip (path_of path.entry) + j)) 0 (L (path_of path.entry)) }
 {
     let count = columns::length_xi(path);
-    let first = path.ends.n0.max(1);
+    let first = first_xi(path);
     buffers::fill_cost(
         t,
         out,

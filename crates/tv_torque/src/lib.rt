@@ -18,30 +18,24 @@ ghost use Rattle.tv_torque.specs.Rows.{torque_bands, ends_of, steps_of};
 use buffers::row;
 use columns::{column_a, column_b};
 use model::{Buffers, Column, ConeKind, Tally, Term};
-use torque::ScaledTorque;
+use torque::{ScaledTorque, TorqueEnd, TorqueStation, TorqueStep};
 
-// The two rows of joint i at an end: k is the moving station, z the resting one.
-// The bound on the own columns stands in each contract here, and in no struct, since the first own column differs from call to call.
-fn end_rows(
-    t: Tally,
-    out: &mut Buffers,
-    torque: ScaledTorque,
-    col: Column,
-    k: usize,
-    z: usize,
-    i: usize,
-) -> Tally
-    requires { Room t 2 × (k < length torque.path.grid.now) × (z < length torque.path.grid.now) × (i < torque.d) × (col.at + most_joints ≤ 2 ^ 32) }
-    ensures { Wrote t out.old result out.new (ends_of torque.entry col.at k z i) 2 }
+// The two rows of joint i at an end.
+// The bound on the own columns stands in each of the four contracts that take the first of them, and in no struct, since that column differs from call to call.
+fn end_rows(t: Tally, out: &mut Buffers, end: TorqueEnd, col: Column, i: usize) -> Tally
+    requires { Room t 2 × (i < end.torque.d) × (col.at + most_joints ≤ 2 ^ 32) }
+    ensures { Wrote t out.old result out.new (ends_of end.entry.torque col.at end.entry.moving end.entry.resting i) 2 }
 {
+    let moving = end.moving_station();
+    let resting = end.resting_station();
     let at = Column { at: col.at + i };
     let own = Term { col: at, v: -1.0 };
-    let ca = column_a(k);
-    let cb = column_b(torque.path.grid, k);
-    let a = torque.a(k, i);
-    let b = torque.b(k, i);
-    let g = torque.g(k, i);
-    let h = torque.g(z, i);
+    let ca = column_a(end.moving);
+    let cb = column_b(end.torque.path.grid, end.moving);
+    let a = moving.a(i);
+    let b = moving.b(i);
+    let g = moving.g(i);
+    let h = resting.g(i);
     let p = Term { col: ca, v: a };
     let q = Term { col: cb, v: b };
     let u = row(t, out, g - h, [p, q, own]);
@@ -51,48 +45,38 @@ fn end_rows(
 }
 
 // The rows of all joints at an end, if its count is positive.
-fn end_part(
-    t: Tally,
-    out: &mut Buffers,
-    torque: ScaledTorque,
-    col: Column,
-    count: usize,
-    k: usize,
-    z: usize,
-) -> Tally
-    requires { Room t torque_step_room × (k < length torque.path.grid.now) × (z < length torque.path.grid.now) × (col.at + most_joints ≤ 2 ^ 32) }
-    ensures { Wrote t out.old result out.new (given (ltb 0 count) (over (ends_of torque.entry col.at k z) 0 torque.entry.d)) torque_step_room }
+fn end_part(t: Tally, out: &mut Buffers, end: TorqueEnd, col: Column) -> Tally
+    requires { Room t torque_step_room × (col.at + most_joints ≤ 2 ^ 32) }
+    ensures { Wrote t out.old result out.new (given (ltb 0 end.entry.count) (over (ends_of end.entry.torque col.at end.entry.moving end.entry.resting) 0 end.entry.torque.d)) torque_step_room }
 {
-    if count == 0 {
+    if end.count == 0 {
         return t;
     }
     let mut u = t;
-    for i in 0..torque.d {
-        u = end_rows(u, out, torque, col, k, z, i);
+    // Over numbers: a joint's number tells its rows. Each turn is one call: see crate buffers.
+    for i in 0..end.torque.d {
+        u = end_rows(u, out, end, col, i);
     }
     u
 }
 
-// The two rows of joint i for the step from station k to the next.
-fn step_rows(
-    t: Tally,
-    out: &mut Buffers,
-    torque: ScaledTorque,
-    col: Column,
-    k: usize,
-    i: usize,
-) -> Tally
-    requires { Room t 2 × (k + 1 < length torque.path.grid.now) × (i < torque.d) × (col.at + most_joints ≤ 2 ^ 32) }
-    ensures { Wrote t out.old result out.new (steps_of torque.entry col.at k i) 2 }
+// The two rows of joint i for a step.
+fn step_rows(t: Tally, out: &mut Buffers, step: TorqueStep, col: Column, i: usize) -> Tally
+    requires { Room t 2 × (i < step.torque.d) × (col.at + most_joints ≤ 2 ^ 32) }
+    ensures { Wrote t out.old result out.new (steps_of step.entry.torque col.at step.entry.k i) 2 }
 {
+    let torque = step.torque;
+    let k = step.k;
+    let here = TorqueStation { torque, k };
+    let next = TorqueStation { torque, k: k + 1 };
     let at = Column { at: col.at + i };
     let own = Term { col: at, v: -1.0 };
-    let a = torque.a(k, i);
-    let a1 = torque.a(k + 1, i);
-    let b = torque.b(k, i);
-    let b1 = torque.b(k + 1, i);
-    let g = torque.g(k, i);
-    let h = torque.g(k + 1, i);
+    let a = here.a(i);
+    let a1 = next.a(i);
+    let b = here.b(i);
+    let b1 = next.b(i);
+    let g = here.g(i);
+    let h = next.g(i);
     let ca = column_a(k);
     let ca1 = column_a(k + 1);
     let cb = column_b(torque.path.grid, k);
@@ -110,48 +94,52 @@ fn step_rows(
 }
 
 // The rows of all joints for a step.
-fn step_joints(t: Tally, out: &mut Buffers, torque: ScaledTorque, col: Column, k: usize) -> Tally
-    requires { Room t torque_step_room × (k + 1 < length torque.path.grid.now) × (col.at + most_joints ≤ 2 ^ 32) }
-    ensures { Wrote t out.old result out.new (over (steps_of torque.entry col.at k) 0 torque.entry.d) torque_step_room }
+fn step_joints(t: Tally, out: &mut Buffers, step: TorqueStep, col: Column) -> Tally
+    requires { Room t torque_step_room × (col.at + most_joints ≤ 2 ^ 32) }
+    ensures { Wrote t out.old result out.new (over (steps_of step.entry.torque col.at step.entry.k) 0 step.entry.torque.d) torque_step_room }
 {
     let mut u = t;
-    for i in 0..torque.d {
-        u = step_rows(u, out, torque, col, k, i);
+    // Over numbers, as at an end. Each turn is one call: see crate buffers.
+    for i in 0..step.torque.d {
+        u = step_rows(u, out, step, col, i);
     }
     u
 }
 
 // All steps.
 #[tactic(auto, unfolding(model::specs::Problem::m))]
-fn steps(t: Tally, out: &mut Buffers, torque: ScaledTorque, col: Column) -> Tally
-    requires { Room t (torque_step_room * length torque.path.grid.now) × (col.at + most_joints * (length torque.path.grid.now + 2) ≤ 2 ^ 32) }
-    ensures { Wrote t out.old result out.new (over (λ j. over (steps_of torque.entry (col.at + torque.entry.d * (Problem.ends (path_of torque.entry.path) + j)) (torque.entry.path.ends.n0 + j)) 0 torque.entry.d) 0 (m (path_of torque.entry.path))) (torque_step_room * length torque.entry.path.grid.now) }
+fn steps(t: Tally, out: &mut Buffers, torque: ScaledTorque) -> Tally
+    requires { RoomAll t (torque_step_room * length torque.path.grid.now) }
+    ensures { Wrote t out.old result out.new (over (λ j. over (steps_of torque.entry (t.columns.at + torque.entry.d * (Problem.ends (path_of torque.entry.path) + j)) (torque.entry.path.ends.n0 + j)) 0 torque.entry.d) 0 (m (path_of torque.entry.path))) (torque_step_room * length torque.entry.path.grid.now) }
 {
     let p = buffers::positive_ends(torque.path.ends);
     let mut u = t;
+    // Over numbers: a step's number tells its own columns and its station. Each turn is one call: see crate buffers.
     for j in 0..torque.path.moving() {
         let own = Column {
-            at: col.at + torque.d * (p + j),
+            at: t.columns.at + torque.d * (p + j),
         };
-        u = step_joints(u, out, torque, own, torque.path.ends.n0 + j);
+        let step = TorqueStep {
+            torque,
+            k: torque.path.ends.n0 + j,
+        };
+        u = step_joints(u, out, step, own);
     }
     u
 }
 
 // All rows.
 #[tactic(auto, unfolding(model::specs::Problem::stop))]
-fn bands(t: Tally, out: &mut Buffers, torque: ScaledTorque, col: Column) -> Tally
-    requires { Room t (torque_room (length torque.path.grid.now)) × (col.at + most_joints * (length torque.path.grid.now + 2) ≤ 2 ^ 32) }
-    ensures { Wrote t out.old result out.new (torque_bands torque.entry col.at) (torque_room (length torque.entry.path.grid.now)) }
+fn bands(t: Tally, out: &mut Buffers, torque: ScaledTorque) -> Tally
+    requires { RoomAll t (torque_room (length torque.path.grid.now)) }
+    ensures { Wrote t out.old result out.new (torque_bands torque.entry t.columns.at) (torque_room (length torque.entry.path.grid.now)) }
 {
-    let path = torque.path;
-    let n0 = path.ends.n0;
-    let u = end_part(t, out, torque, col, n0, n0, 0);
+    let u = end_part(t, out, torque.first_end(), t.columns);
     let own = Column {
-        at: col.at + torque.d * n0.min(1),
+        at: t.columns.at + torque.d * torque.path.ends.n0.min(1),
     };
-    let v = end_part(u, out, torque, own, path.ends.n1, path.stop(), path.last());
-    steps(v, out, torque, col)
+    let v = end_part(u, out, torque.last_end(), own);
+    steps(v, out, torque)
 }
 
 // The block: its rows in one nonnegative cone, and the weight for each own column.
@@ -167,7 +155,7 @@ pub fn clarabel_objective_tv_torque_copp3(
 {
     let path = torque.path;
     let count = torque.d * (buffers::positive_ends(path.ends) + path.moving());
-    let u = bands(t, out, torque, t.columns);
+    let u = bands(t, out, torque);
     let v = buffers::close_cone(u, out, ConeKind::Nonnegative, t.rows);
     buffers::fill_cost(v, out, count, |_| weight)
 }

@@ -1,26 +1,33 @@
-use Rattle.std.proofs.Common.{arith, ◌+◌}
-use Rattle.model.specs.Problem.{m}
-use Rattle.buffers.proofs.Laws.{overs_none, overs_more, wrote_most}
-use Rattle.acc_jerk.proofs.Sums.{before_within, place_next, start}
+use Rattle.std.proofs.Common.{arith}
+use Rattle.model.specs.Problem.{m, stop}
+use Rattle.buffers.proofs.Laws.{overs_all, wrote_most}
+use Rattle.buffers.proofs.Turns.{stations_none, stations_more}
+use Rattle.acc_jerk.proofs.Sums.{before_within, place_next}
 use Rattle.acc_jerk.proofs.clarabel_3order_constraint_topp3.Goals as goal
 
-pub loop-i-init : goal.loop-i-init
-loop-i-init c = (omega arith, start c.args.rows.tables.rows.now _ c.args.rows.path.ends.n0 c.offset-from.ensures, overs_none)
+pub loop-k-init : goal.loop-k-init
+unfolding stop
+loop-k-init c = (omega arith, omega (arith, c.args.rows.path.sized), c.offset-from.ensures, stations_none)
 
 pub invariant_of-jerk_at : goal.invariant_of-jerk_at
-unfolding m
+unfolding stop
 invariant_of-jerk_at c =
-    let a = c.args in
+    let rows = c.args.rows in
     record {
-      placed = omega (arith, a.rows.sized, a.rows.path.sized, c.moving-count.ensures, c.loop-i.invariant.1, c.loop-i-test, before_within a.rows.tables.rows.now (a.rows.path.ends.n0 + c.loop-i.i));
+      placed = omega (arith, rows.sized, rows.path.sized, c.stop-k-end.ensures, c.loop-k.invariant, c.loop-k-test, before_within rows.tables.rows.now c.loop-k.k);
     }
 
-pub loop-i-preserved : goal.loop-i-preserved
-unfolding m
-loop-i-preserved c =
-    let a = c.args in
-    let first = a.rows.path.ends.n0 in (
-      omega (arith, c.loop-i-test),
-      place_next a.rows.tables.rows.now _ first c.loop-i.i c.loop-i.invariant.1 (omega (arith, a.rows.sized, a.rows.path.sized, c.moving-count.ensures, c.loop-i-test)),
-      overs_more c.loop-i.invariant.2 (wrote_most c.jerk_at-u.ensures (omega (arith, c.requires.1 (first + c.loop-i.i)))),
+pub loop-k-preserved : goal.loop-k-preserved
+unfolding stop
+loop-k-preserved c =
+    let rows = c.args.rows in
+    let k = c.loop-k.k in (
+      omega (arith, c.loop-k.invariant),
+      omega (arith, c.loop-k-test, c.stop-k-end.ensures),
+      place_next rows.tables.rows.now _ k c.loop-k.invariant.2 (omega (arith, rows.sized, rows.path.sized, c.stop-k-end.ensures, c.loop-k-test)),
+      stations_more c.loop-k.invariant.0 c.loop-k.invariant.3 (wrote_most c.jerk_at-u.ensures (omega (arith, c.requires.1 k))),
     )
+
+pub returns : goal.returns
+unfolding m stop
+returns c = overs_all c.loop-k.invariant.3 (omega (arith, c.loop-k.invariant)) (omega (arith, c.loop-k-test, c.stop-k-end.ensures)) (omega (arith, c.args.rows.path.sized))

@@ -1,10 +1,13 @@
-use Rattle.std.proofs.Common.{◌≡◌, ◌+◌, ◌≤◌, take}
+use Rattle.std.proofs.Common.{◌≡◌, ◌+◌, ◌-◌, ◌≤◌, take}
 use Rattle.model.specs.Lists.{total}
+use Rattle.model.specs.Problem.{stop}
 use Rattle.model.specs.Standard.{jerk_rows_at}
 use Rattle.buffers.specs.Buffers.{Overs}
 use Rattle.buffers.specs.Paths.{path_of}
 use Rattle.acc_jerk.specs.Tables.{jerk_of}
 use Rattle.acc_jerk.proofs.clarabel_3order_constraint_topp3.Given as goal
 
-abbrev pub invariant-loop-i : goal.invariant-loop-i
-invariant-loop-i l = (l.i ≤ l.count) × (l.from ≡ total (take (l.first + l.i) l.rows.tables.rows.now)) × Overs l.initial.u l.initial.out l.u l.out (jerk_rows_at (path_of l.rows.path) (jerk_of l.rows.tables)) l.first l.i 512
+abbrev pub invariant-loop-k : goal.invariant-loop-k
+invariant-loop-k l =
+    let q = path_of l.rows.path in
+    (l.first ≤ l.k) × (l.k ≤ stop q + 1) × (l.from ≡ total (take l.k l.rows.tables.rows.now)) × Overs l.initial.u l.initial.out l.u l.out (jerk_rows_at q (jerk_of l.rows.tables)) l.first (l.k - l.first) 512

@@ -19,4 +19,4 @@ returns-clause-answer c =
     let b = buffers_of c.args.out.now in
     let e : c.verdict.result ≡ verdict_of p (lengths b) (length b.index) = rw (← c.lengths_of-lengths.ensures) c.verdict.ensures in
     let f = c.in_ok-verdict.was in
-    done p b e f (counted p (usable_sizes p (usable p (accepted p b e f)))) c.write-t.ensures.complete
+    rw c.from.ensures (done p b e f (counted p (usable_sizes p (usable p (accepted p b e f)))) c.write-t.ensures.complete)

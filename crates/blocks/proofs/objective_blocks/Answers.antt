@@ -1,4 +1,5 @@
-use Rattle.std.proofs.Common.{arith, take}
+use Rattle.std.proofs.Common.{arith, take, length, ap}
+use Rattle.model.specs.Problem.{Problem}
 use Rattle.objectives.proofs.Owned.{built_grows}
 use Rattle.blocks.specs.Blocks.{lends_in}
 use Rattle.blocks.proofs.Halves.{roots_then}
@@ -10,4 +11,8 @@ put_owner-u-requires c = let g = built_grows c.root_stage.ensures.built in (g.0,
 pub returns : goal.returns
 returns c =
     let p = c.args.problem.now in
-    roots_then (lends_in p) (take p.job.count p.objectives) c.root_stage.ensures c.put_owner-u.ensures c.clarabel_objective_copp3.ensures (omega (arith, c.requires.2))
+    let l = c.objectives_in-list.ensures in
+    let roots = rw (ap (λ (x : Problem). x.path) l.lends, l.objectives) at c.root_stage.ensures in
+    let own = rw (l.lends, l.objectives) at c.clarabel_objective_copp3.ensures in
+    let long = ap (λ (x : Problem). length x.path.grid) l.lends in
+    roots_then (lends_in p) (take p.job.count p.objectives) roots c.put_owner-u.ensures own (omega (arith, c.requires.2.0, long))

@@ -4,4 +4,9 @@ use Rattle.blocks.proofs.Halves.{cost_then_cones}
 use Rattle.blocks.proofs.standard_block.Goals as goal
 
 pub returns : goal.returns
-returns c = builds_most (cost_then_cones c.linear.ensures c.standard_rows.ensures) (omega (arith, c.requires.1))
+returns c =
+    let l = c.linear_in.ensures in
+    let s = c.standard_in.ensures in
+    let cost = rw (l.grid, l.ends, l.start, l.end, l.pool, l.objectives) at c.linear.ensures in
+    let cones = rw (s.grid, s.ends, s.boundary, s.start, s.end, s.amax, s.acceleration, s.jerk) at c.standard_rows.ensures in
+    builds_most (cost_then_cones cost cones) (omega (arith, c.requires.1))

@@ -1,5 +1,4 @@
 use Rattle.model.specs.Objectives.{objective_block}
-use Rattle.buffers.proofs.Parts.{part_of}
 use Rattle.objectives.specs.Lends.{lends_of}
 use Rattle.finite_objectives.proofs.Costs.{linear_scanned}
 use Rattle.finite_objectives.proofs.objective.Goals as goal
@@ -10,11 +9,15 @@ returns-in-Time c = rw c.in-Time.is c.time.ensures
 
 pub returns-in-ThermalEnergy : goal.returns-in-ThermalEnergy
 unfolding objective_block
-returns-in-ThermalEnergy c = rw (c.in-ThermalEnergy.is, ← part_of c.args.input.now.pool.now c.in-ThermalEnergy.start c.in-ThermalEnergy.len) c.thermal_energy.ensures
+returns-in-ThermalEnergy c =
+    let s = c.scaled.ensures in
+    rw c.in-ThermalEnergy.is (rw (s.path, s.tables, s.scales, s.joints) at c.thermal_energy.ensures)
 
 pub returns-in-TotalVariationTorque : goal.returns-in-TotalVariationTorque
 unfolding objective_block
-returns-in-TotalVariationTorque c = rw (c.in-TotalVariationTorque.is, ← part_of c.args.input.now.pool.now c.in-TotalVariationTorque.start c.in-TotalVariationTorque.len) c.total_variation_torque.ensures
+returns-in-TotalVariationTorque c =
+    let s = c.scaled-in-TotalVariationTorque.ensures in
+    rw c.in-TotalVariationTorque.is (rw (s.path, s.tables, s.scales, s.joints) at c.total_variation_torque.ensures)
 
 pub returns-in-Linear : goal.returns-in-Linear
 returns-in-Linear c = λ k. linear_scanned (lends_of c.args.input.now) k c.in-Linear.is

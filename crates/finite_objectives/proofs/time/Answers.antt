@@ -11,4 +11,4 @@ unfolding skip
 returns c = λ k.
     let q = path_of c.args.path in
     let w = c.args.weight in
-    time_scanned q w k (rw (← c.max.ensures, ← c.length_xi.ensures) (c.every.ensures (λ j. finite (w ⊗ at (time_weights q) j)) (λ j b h l p. search rules)))
+    time_scanned q w k (rw (← c.first_xi.ensures, ← c.length_xi.ensures) (c.every.ensures (λ j. finite (w ⊗ at (time_weights q) j)) (λ j b h l p. search rules)))

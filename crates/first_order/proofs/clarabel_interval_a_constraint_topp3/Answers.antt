@@ -1,7 +1,7 @@
 use native.Mathlib.Omega.{arith}
 use Rattle.model.specs.Problem.{m, stop}
 use Rattle.buffers.proofs.Laws.{overs_all}
-use Rattle.first_order.proofs.Turns.{stations_none, stations_more}
+use Rattle.buffers.proofs.Turns.{stations_none, stations_more}
 use Rattle.first_order.proofs.clarabel_interval_a_constraint_topp3.Goals as goal
 
 pub loop-k-init : goal.loop-k-init
@@ -9,7 +9,7 @@ unfolding stop
 loop-k-init c = (omega arith, omega (arith, c.args.path.sized), stations_none)
 
 pub loop-k-preserved : goal.loop-k-preserved
-loop-k-preserved c = (omega arith, omega (arith, c.loop-k-test, c.stop-k-end.ensures), stations_more c.loop-k.invariant.0 c.loop-k.invariant.2 c.interval-u.ensures)
+loop-k-preserved c = (omega arith, omega (arith, c.loop-k-test, c.stop-k-end.ensures), stations_more c.loop-k.invariant.0 c.loop-k.invariant.2 c.interval_rows-u.ensures)
 
 pub returns : goal.returns
 unfolding m stop

@@ -2,7 +2,7 @@ use native.Mathlib.Omega.{arith}
 use Rattle.model.specs.Problem.{m, stop}
 use Rattle.model.specs.Standard.{upper_row}
 use Rattle.buffers.proofs.Laws.{overs_all}
-use Rattle.first_order.proofs.Turns.{stations_none, stations_more}
+use Rattle.buffers.proofs.Turns.{stations_none, stations_more}
 use Rattle.first_order.proofs.uppers.Goals as goal
 
 pub loop-k-init : goal.loop-k-init

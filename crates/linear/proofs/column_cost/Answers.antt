@@ -6,5 +6,6 @@ use Rattle.linear.proofs.column_cost.Goals as goal
 
 pub loop-o-preserved : goal.loop-o-preserved
 loop-o-preserved c =
-    let os = c.args.objectives.now in
-    (search rules, charged_next (charges_in c.args.input.now) os c.loop-o.o-index (take_more os c.loop-o.o-index _ (search rules)) c.loop-o.invariant.1 c.charge-x.ensures)
+    let costs = c.args.costs.now in
+    let os = costs.objectives.now in
+    (search rules, charged_next (charges_in costs.input) os c.loop-o.o-index (take_more os c.loop-o.o-index _ (search rules)) c.loop-o.invariant.1 c.charge-x.ensures)

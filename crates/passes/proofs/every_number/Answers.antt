@@ -2,26 +2,26 @@ use mathlib.Core.Path.{◌∙◌}
 use Rattle.model.specs.Lent.{problem_of}
 use Rattle.model.proofs.Usable.{usable, usable_sizes}
 use Rattle.linear.proofs.Fitting.{usable_all}
-use Rattle.passes.proofs.Accepted.{objectives_ready}
+use Rattle.passes.proofs.Accepted.{all_ready}
 use Rattle.passes.proofs.Numbers.{every_scanned}
 use Rattle.passes.proofs.every_number.Goals as goal
 
-pub shared_ref_as_front-objectives : goal.shared_ref_as_front-objectives
-shared_ref_as_front-objectives c = (usable _ c.requires).count.1
+pub linear_in-requires : goal.linear_in-requires
+linear_in-requires c = let u = usable _ c.requires in (u.sized, u.count.1, usable_all _ u)
 
-pub invariant_of-path : goal.invariant_of-path
-invariant_of-path c = record { sized = (usable _ c.requires).sized }
+pub standard_in-requires : goal.standard_in-requires
+standard_in-requires c = let u = usable _ c.requires in (u.sized, u.amax, u.acc, u.jerk)
 
-pub ab_costs-one-requires : goal.ab_costs-one-requires
-ab_costs-one-requires c = usable_all _ (usable _ c.requires)
-
-pub invariant_of-input : goal.invariant_of-input
-invariant_of-input c = let u = usable _ c.requires in record { sized = (u.amax, u.acc, u.jerk) }
-
-pub objectives-three-requires : goal.objectives-three-requires
-objectives-three-requires c = objectives_ready _ (usable _ c.requires)
+pub objectives_in-requires : goal.objectives_in-requires
+objectives_in-requires c = let u = usable _ c.requires in (u.sized, u.count.1, all_ready _ u)
 
 pub returns : goal.returns
 returns c =
     let p = problem_of c.args.problem.now in
-    rw (← c.both.ensures) c.both-2.ensures ∙ every_scanned p (usable_sizes p (usable p c.requires)) c.ab_costs-one.ensures c.standard_rows-two.ensures c.objectives-three.ensures
+    let l = c.linear_in.ensures in
+    let s = c.standard_in.ensures in
+    let o = c.objectives_in.ensures in
+    let costs = rw (l.grid, l.ends, l.start, l.end, l.pool, l.objectives) at c.ab_costs-costs.ensures in
+    let rows = rw (s.grid, s.ends, s.boundary, s.start, s.end, s.amax, s.acceleration, s.jerk) at c.standard_rows-rows.ensures in
+    let own = rw (o.lends, o.objectives) at c.objectives-own.ensures in
+    rw (← c.both.ensures) c.both-2.ensures ∙ every_scanned p (usable_sizes p (usable p c.requires)) costs rows own

@@ -15,7 +15,7 @@ use Rattle.passes.proofs.write.Goals as goal
 pub standard_block-t-requires : goal.standard_block-t-requires
 standard_block-t-requires c =
     let u = usable _ c.requires in
-    (omega (arith, u.sized, ap (λ (t : Tally). t.entries) c.before_rows-begin.ensures, ap (λ (t : Tally). t.rows.at) c.before_rows-begin.ensures, ap (λ (t : Tally). t.cones) c.before_rows-begin.ensures, ap (λ (t : Tally). t.columns.at) c.before_rows-begin.ensures), (u.sized, u.count.1, usable_all _ u, u.amax, u.acc, u.few_acc, u.jerk, u.few_jerk))
+    (omega (arith, u.sized, ap (λ (t : Tally). t.entries) c.before_rows-begin.ensures, ap (λ (t : Tally). t.rows.at) c.before_rows-begin.ensures, ap (λ (t : Tally). t.cones) c.before_rows-begin.ensures, ap (λ (t : Tally). t.columns.at) c.before_rows-begin.ensures), ((u.sized, u.count.1, usable_all _ u), (u.sized, u.amax, u.acc, u.jerk), u.few_acc, u.few_jerk))
 
 pub objective_blocks-requires : goal.objective_blocks-requires
 objective_blocks-requires c =
@@ -26,9 +26,7 @@ objective_blocks-requires c =
     let g = c.standard_block-t.ensures.built in (
       omega (arith, u.sized, g, ap (λ (t : Tally). t.entries) b, ap (λ (t : Tally). t.rows.at) b, ap (λ (t : Tally). t.cones) b, ap (λ (t : Tally). t.columns.at) b, ap (λ (t : Tally). t.entries) q, ap (λ (t : Tally). t.rows.at) q, ap (λ (t : Tally). t.cones) q, ap (λ (t : Tally). t.columns.at) q),
       omega (arith, ap (λ (t : Tally). t.owner) q, ap (λ (t : Tally). t.owner) w),
-      u.sized,
-      u.count.1,
-      all_ready _ u,
+      (u.sized, u.count.1, all_ready _ u),
     )
 
 pub returns : goal.returns

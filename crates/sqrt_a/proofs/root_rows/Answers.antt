@@ -9,4 +9,4 @@ pub returns : goal.returns
 unfolding root_cone skip
 returns c =
     let a = at_column c.column_a-a.ensures refl in
-    rw (← c.max.ensures) (wrote_then (wrote_then (band_at c.row-u.ensures a) (band_at c.row-u-2.ensures a)) (band_at c.row.ensures (at_column c.column_xi-xi.ensures refl)))
+    rw (← c.first_xi.ensures) (wrote_then (wrote_then (band_at c.row-u.ensures a) (band_at c.row-u-2.ensures a)) (band_at c.row.ensures (at_column c.column_xi-xi.ensures refl)))

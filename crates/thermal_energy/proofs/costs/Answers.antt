@@ -23,10 +23,10 @@ fill_cost-requires-clause-room c =
 pub returns : goal.returns
 unfolding thermal_block ends L skip
 returns c =
-    let q = path_of c.args.path in
-    let w = c.args.weight in
-    let ws = c.args.thermal.now in
+    let q = path_of c.args.objective.torque.path in
+    let w = c.args.objective.weight in
+    let ws = c.args.objective.thermal.now in
     let u = rw c.min.ensures at c.fill_cost-u.ensures (λ i. w ⊗ at ws 0) (λ i x lt e. search rules) in
     let v = rw c.min-2.ensures at c.fill_cost-v.ensures (λ i. w ⊗ at ws (n q)) (λ i x lt e. search rules) in
     let rest = rw c.length_xi-count.ensures at c.fill_cost.ensures (λ j. +4 ⊗ w ⊗ at ws (skip q + j)) (λ j x lt e. search rules) in
-    (costs_as (costs_then (costs_then u.costs v.costs) rest.costs) (flag_lists c.args.path.ends.n0 c.args.path.ends.n1 _ _ _), omega (arith, u.columns, v.columns, rest.columns))
+    (costs_as (costs_then (costs_then u.costs v.costs) rest.costs) (flag_lists c.args.objective.torque.path.ends.n0 c.args.objective.torque.path.ends.n1 _ _ _), omega (arith, u.columns, v.columns, rest.columns))

@@ -1,7 +1,7 @@
 use mathlib.Core.Path.{◌≡◌, refl, sym, ◌∙◌, subst}
 use mathlib.Core.Bool.{Bool, true, not}
 use lib.Dec.{T}
-use lib.Ieee.{Float, nan, inf, fin, binary64, of_bits, is_nan, div}
+use lib.Ieee.{Float, nan, inf, fin, binary64, of_bits, is_nan}
 use lib.Ieee.Bits.{nan_bits_above, nan_bits_is}
 use borrow.Author.Tests.{lt-ltb, le-ltb}
 use Rattle.replay_list.proofs.file.float_of.Goals as goal
@@ -13,9 +13,9 @@ is-nan nan e = refl
 is-nan (inf s) e = absurd (subst T (sym e) tt)
 is-nan (fin s m e) t = absurd (subst T (sym t) tt)
 
-quotient-nan : div binary64 (of_bits binary64 0) (of_bits binary64 0) ≡ nan
-unfolding div of_bits
-quotient-nan = refl
+named-nan : of_bits binary64 9221120237041090560 ≡ nan
+unfolding of_bits
+named-nan = refl
 
 pub float_from_bits-result : goal.float_from_bits-result
 float_from_bits-result c = subst (λ (t : Bool). T (not t)) (sym (nan_bits_above binary64 c.args.bits ∙ le-ltb _ _ c.if-bits-gt9218868437227405312.false)) tt
@@ -23,4 +23,4 @@ float_from_bits-result c = subst (λ (t : Bool). T (not t)) (sym (nan_bits_above
 pub returns-then-bits-gt9218868437227405312 : goal.returns-then-bits-gt9218868437227405312
 returns-then-bits-gt9218868437227405312 c =
     let bits = c.args.bits in
-    quotient-nan ∙ sym (is-nan (of_bits binary64 bits) (sym (nan_bits_is binary64 bits) ∙ nan_bits_above binary64 bits ∙ lt-ltb _ _ c.if-bits-gt9218868437227405312.true))
+    named-nan ∙ sym (is-nan (of_bits binary64 bits) (sym (nan_bits_is binary64 bits) ∙ nan_bits_above binary64 bits ∙ lt-ltb _ _ c.if-bits-gt9218868437227405312.true))
