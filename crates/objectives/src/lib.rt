@@ -47,6 +47,15 @@ fn objective(t: Tally, out: &mut Buffers, input: &ObjectiveInput, o: Objective) 
     u
 }
 
+// One of those that count. A function of its own, proved with no file, so that document 01's wrong program for later ones can be an edit of it.
+// `Ready` stands here as with `objective`: a struct of an objective and that fact would be made at every call.
+fn one_objective(t: Tally, out: &mut Buffers, input: &ObjectiveInput, o: Objective) -> Tally
+    requires { RoomAll t objective_room × Ready (lends_of input.now) o }
+    ensures { Builds t out.old result out.new (objective_block (lends_of input.now) t.columns.at o) objective_room }
+{
+    objective(t, out, input, o)
+}
+
 // All that count, each an owner of its own in the index.
 pub fn clarabel_objective_copp3(t: Tally, out: &mut Buffers, list: &ObjectiveList) -> Tally
     requires { RoomAll t objectives_room × (t.owner < 2 ^ 32) × (length list.now.objectives.now ≤ most_objectives) }
@@ -55,7 +64,7 @@ pub fn clarabel_objective_copp3(t: Tally, out: &mut Buffers, list: &ObjectiveLis
     let input = &list.input;
     let mut u = t;
     for o in list.objectives {
-        let w = objective(u, out, input, *o);
+        let w = one_objective(u, out, input, *o);
         u = put_owner(u, w, out);
     }
     u
