@@ -46,10 +46,9 @@ static copp3_objectives case_a_objectives(void) {
     none, 0                                    /* pool */
 
 typedef struct {
-    uint32_t *rows, *columns, *dimensions;
+    uint64_t *rows, *columns, *dimensions, *index;
     double *values, *right, *cost;
     uint8_t *kinds;
-    uint64_t *index;
 } buffers;
 
 static void *reserve(uint64_t count, size_t size) {
@@ -114,7 +113,7 @@ static void check_numbers(buffers out) {
     static const uint8_t kinds[6] = {
         COPP3_CONE_ZERO, COPP3_CONE_NONNEGATIVE, COPP3_CONE_NONNEGATIVE,
         COPP3_CONE_SECOND_ORDER, COPP3_CONE_NONNEGATIVE, COPP3_CONE_SECOND_ORDER};
-    static const uint32_t dimensions[6] = {6, 5, 1, 3, 1, 3};
+    static const uint64_t dimensions[6] = {6, 5, 1, 3, 1, 3};
     static const double cost[8] = {0, 0, 0, 0, 0, 0, 0, 1};
     /* The two second-order cones: a root cone and a Time cone. */
     static const double root[3] = {0.25, -0.25, 0.0};
@@ -203,12 +202,12 @@ static void print(copp3_answer answer, buffers out) {
            (unsigned long long)answer.rows, (unsigned long long)answer.cones,
            (unsigned long long)answer.columns);
     for (uint64_t i = 0; i < answer.entries; i++) {
-        printf("row %u column %u value %g\n", (unsigned)out.rows[i], (unsigned)out.columns[i],
-               out.values[i]);
+        printf("row %llu column %llu value %g\n", (unsigned long long)out.rows[i],
+               (unsigned long long)out.columns[i], out.values[i]);
     }
     for (uint64_t c = 0; c < answer.cones; c++) {
-        printf("cone %s %u\n", out.kinds[c] < 3 ? names[out.kinds[c]] : "unknown",
-               (unsigned)out.dimensions[c]);
+        printf("cone %s %llu\n", out.kinds[c] < 3 ? names[out.kinds[c]] : "unknown",
+               (unsigned long long)out.dimensions[c]);
     }
     printf("right side");
     for (uint64_t i = 0; i < answer.rows; i++) {

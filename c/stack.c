@@ -1,6 +1,7 @@
 /*
  * How much stack a call takes. Each call runs in a thread on a stack of its own that was filled with a pattern; how far down the pattern is gone is
- * the call's mark, its arguments included. The marks have to be the same for 3 and for 4,097 stations and at most COPP3_STACK_BYTES.
+ * the call's mark, its arguments included. The marks have to be the same for 3 and for 65,537 stations, the fewest and the most, and at most COPP3_STACK_BYTES.
+ * With 16 objectives the buffers take some 700 MB at the most stations.
  */
 #define _POSIX_C_SOURCE 200809L
 
@@ -14,6 +15,8 @@
 
 #define JOINTS 6
 #define ROWS 6 /* acceleration rows, and jerk rows, of each station */
+#define FEWEST 2 /* least n */
+#define MOST 65536 /* greatest n */
 #define STACK_SIZE ((size_t)1 << 20)
 #define PAGE 4096
 
@@ -52,10 +55,9 @@ typedef struct {
     uint32_t *counts;
     copp3_answer size, answer;
     copp3_owner owner;
-    uint32_t *rows, *columns, *dimensions;
+    uint64_t *rows, *columns, *dimensions, *index;
     double *values, *right, *cost;
     uint8_t *kinds;
-    uint64_t *index;
 } work;
 
 /* Objectives of the four kinds in turn, with their lists in the pool: the scales, then alpha, then beta. */
@@ -215,12 +217,12 @@ static void marks(size_t n, size_t n0, size_t n1, size_t count, size_t out[CALLS
     release(&w);
 }
 
-/* The same at 3 and at 4,097 stations, and no more than the header says; sizing and the assembly take more than the start of a thread. */
+/* The same at the fewest and at the most stations, and no more than the header says; sizing and the assembly take more than the start of a thread. */
 static void compare(size_t n0, size_t n1, size_t count) {
     size_t few[CALLS], many[CALLS];
-    marks(2, n0, n1, count, few);
-    marks(4096, n0, n1, count, many);
-    printf("n0=%zu n1=%zu, %zu objectives, bytes of stack at n=2 and n=4096:", n0, n1, count);
+    marks(FEWEST, n0, n1, count, few);
+    marks(MOST, n0, n1, count, many);
+    printf("n0=%zu n1=%zu, %zu objectives, bytes of stack at n=%d and n=%d:", n0, n1, count, FEWEST, MOST);
     for (size_t i = 0; i < CALLS; i++) {
         printf("%s %s %zu %zu", i > 0 ? "," : "", names[i], few[i], many[i]);
         expect(few[i] == many[i], names[i], "does not grow with n");

@@ -20,7 +20,8 @@
  * rows in cone order. Entry i of A is values[i] at row rows[i], column
  * columns[i]; no position is named twice. Cone c has the next dimensions[c]
  * rows; its kind is 0 zero, 1 nonnegative, 2 second-order. The cost is linear
- * in the columns.
+ * in the columns. Row numbers, column numbers, dimensions and all numbers of the
+ * index are 64-bit whole numbers, kinds are bytes.
  *
  * Columns of z, for stations 0 to n:
  *     a of station k      k
@@ -116,7 +117,7 @@
  *     3   initial a is 0 with b below 0 (place 0), or terminal a is 0 with b
  *         above 0 (place 1)
  *     4   fewer than 3 stations
- *     5   more than 4097 stations
+ *     5   more than 65537 stations
  *     6   a grid number is not finite; place the first such station
  *     7   a grid number is not above the one before; place the first such
  *         station (the later one of the pair)
@@ -294,12 +295,12 @@ copp3_answer copp3_assemble(
     const double *start_roots, size_t start_roots_len,
     const double *end_roots, size_t end_roots_len,
     const double *pool, size_t pool_len,
-    uint32_t *rows, size_t rows_len,
-    uint32_t *columns, size_t columns_len,
+    uint64_t *rows, size_t rows_len,
+    uint64_t *columns, size_t columns_len,
     double *values, size_t values_len,
     double *right, size_t right_len,
     uint8_t *kinds, size_t kinds_len,
-    uint32_t *dimensions, size_t dimensions_len,
+    uint64_t *dimensions, size_t dimensions_len,
     double *cost, size_t cost_len,
     uint64_t *index, size_t index_len);
 

@@ -35,7 +35,7 @@ pub fn offset(counts: &[u32], k: usize) -> usize
 
 // A column that holds these numbers.
 fn column_table(t: Tally, out: &mut Buffers, row: Row, col: Column, numbers: &[f64]) -> Tally
-    requires { RoomFrom t row.at (length numbers.now) × (col.at < 2 ^ 32) }
+    requires { RoomFrom t row.at (length numbers.now) }
     ensures { Fills t out.old result out.new row.at (λ i. cell col.at (at numbers.now i)) (length numbers.now) }
 {
     buffers::fill(t, out, row, numbers.len(), |i| Term { col, v: numbers[i] })
@@ -116,7 +116,7 @@ fn column_jerk(
     form: Form,
     r: f64,
 ) -> Tally
-    requires { RoomFrom t row.at (get_or station.rows.tables.rows.now station.k 0) × (col.at < 2 ^ 32) }
+    requires { RoomFrom t row.at (get_or station.rows.tables.rows.now station.k 0) }
     ensures { Fills t out.old result out.new row.at (λ i. cell col.at (jerk_value form (at station.entry.rows.tables.b.now (station.entry.from + i)) (at station.entry.rows.tables.c.now (station.entry.from + i)) r)) (get_or station.entry.rows.tables.rows.now station.entry.k 0) }
 {
     let b = station.part(station.rows.tables.b);

@@ -13,20 +13,12 @@ ghost use Rattle.model.specs.Numbers.{at, ◌⊖◌, ◌⊗◌};
 ghost use Rattle.model.specs.Lists.{list};
 ghost use Rattle.model.specs.Program.{Cell, row, entry, positive_row, kind_number};
 ghost use Rattle.buffers.specs.Buffers.{Puts, Fills, PutsRight, FillsRight, Wrote, PutsCone, PutsCost, FillsCost, Columns};
-ghost use Rattle.buffers.specs.Lent.{Room, RoomFrom, term, Narrow, row_of, constant_cells};
+ghost use Rattle.buffers.specs.Lent.{Room, RoomFrom, term, row_of, constant_cells};
 ghost use Rattle.buffers.specs.Owned.{PutsOwner};
 
 pub use interval::Interval;
 use model::{Buffers, Column, ConeKind, Ends, Row, Tally, Term};
 pub use path::{Path, path_in};
-
-// The one place that knows the width of a stored number.
-fn narrow(x: usize) -> u32
-    requires { x < 2 ^ 32 }
-    ensures { result ≡ x }
-{
-    x as u32
-}
 
 // A store that an index past the end leaves out, as `set` of a list does.
 fn store<T: Copy>(xs: &mut [T], at: usize, x: T)
@@ -73,12 +65,12 @@ pub fn put_owner(t: Tally, u: Tally, out: &mut Buffers) -> Tally
 
 // One entry more.
 pub fn put(t: Tally, out: &mut Buffers, row: Row, p: Term) -> Tally
-    requires { (t.entries + 1 < 2 ^ 64) × (row.at < 2 ^ 32) × (p.col.at < 2 ^ 32) }
+    requires { t.entries + 1 < 2 ^ 64 }
     ensures { Puts t out.old result out.new (entry row.at (term p)) }
 {
     let at = t.entries;
-    store(out.rows, at, narrow(row.at));
-    store(out.columns, at, narrow(p.col.at));
+    store(out.rows, at, row.at);
+    store(out.columns, at, p.col.at);
     store(out.values, at, p.v);
     Tally {
         entries: at + 1,
@@ -99,18 +91,18 @@ pub fn put_right(t: Tally, out: &mut Buffers, x: f64) -> Tally
 
 // One cone more. The kind is a byte, which is what the buffer holds, and any byte was taken from the start; close_cone takes a ConeKind.
 pub fn put_cone(t: Tally, out: &mut Buffers, kind: u8, dim: usize) -> Tally
-    requires { (t.cones + 1 < 2 ^ 64) × (dim < 2 ^ 32) }
+    requires { t.cones + 1 < 2 ^ 64 }
     ensures { PutsCone t out.old result out.new kind dim }
 {
     let at = t.cones;
     store(out.kinds, at, kind);
-    store(out.dimensions, at, narrow(dim));
+    store(out.dimensions, at, dim);
     Tally { cones: at + 1, ..t }
 }
 
 // The cone of all rows that were written since a row: its kind as a byte.
 pub fn close_cone(t: Tally, out: &mut Buffers, kind: ConeKind, first: Row) -> Tally
-    requires { (t.cones + 1 < 2 ^ 64) × (first.at ≤ t.rows.at) × (t.rows.at ≤ 2 ^ 32) × (t.rows.at < first.at + 2 ^ 32) }
+    requires { (t.cones + 1 < 2 ^ 64) × (first.at ≤ t.rows.at) }
     ensures { PutsCone t out.old result out.new (kind_number kind) (t.rows.at - first.at) }
 {
     put_cone(t, out, kind as u8, t.rows.at - first.at)
@@ -129,7 +121,7 @@ pub fn put_cost(t: Tally, out: &mut Buffers, x: f64) -> Tally
 
 // Entries of one row.
 fn put_all<const N: usize>(t: Tally, out: &mut Buffers, row: Row, terms: [Term; N]) -> Tally
-    requires { (t.entries + N < 2 ^ 64) × (row.at < 2 ^ 32) × Narrow terms }
+    requires { t.entries + N < 2 ^ 64 }
     ensures { Columns t out.old result out.new row.at (constant_cells terms.entry) 1 }
 {
     let mut u = t;
@@ -141,7 +133,7 @@ fn put_all<const N: usize>(t: Tally, out: &mut Buffers, row: Row, terms: [Term; 
 
 // A row of at most five entries.
 pub fn row<const N: usize>(t: Tally, out: &mut Buffers, x: f64, terms: [Term; N]) -> Tally
-    requires { Room t 1 × (N ≤ 5) × Narrow terms }
+    requires { Room t 1 × (N ≤ 5) }
     ensures { Wrote t out.old result out.new (row_of x terms.entry ∷ []) 1 }
 {
     let u = put_all(t, out, t.rows, terms);
@@ -150,7 +142,7 @@ pub fn row<const N: usize>(t: Tally, out: &mut Buffers, x: f64, terms: [Term; N]
 
 // count rows that say that columns are not negative, from one on.
 pub fn positive(t: Tally, out: &mut Buffers, from: Column, count: usize) -> Tally
-    requires { Room t count × (from.at + count ≤ 2 ^ 32) }
+    requires { Room t count × (from.at + count < 2 ^ 64) }
     ensures { Wrote t out.old result out.new (list positive_row from.at count) count }
 {
     let mut u = t;
@@ -172,7 +164,6 @@ pub fn fill<F: Fn(usize) -> Term>(
 ) -> Tally
     requires room { RoomFrom t row.at count }
     requires callable { (i : ℕ) → i < count → F.pre term_at i }
-    requires narrow { (i : ℕ) (p : _) → i < count → F.post term_at i p → p.col.at < 2 ^ 32 }
     ensures { (f : ℕ → Cell) → ((i : ℕ) (p : _) → i < count → F.post term_at i p → term p ≡ f i) → Fills t out.old result out.new row.at f count }
 {
     let mut u = t;

@@ -6,7 +6,7 @@ ghost use Rattle.buffers.specs.Inputs.{Sized, path};
 
 use model::{Ends, Problem};
 
-// The grid with its stationary counts. Refusals 4, 5 and 14 leave at least 3 stations, at most 4,097, and a moving interval.
+// The grid with its stationary counts. Refusals 4, 5 and 14 leave at least 3 stations, at most 65,537, and a moving interval.
 #[derive(Clone, Copy)]
 pub struct Path<'a> {
     pub grid: &'a [f64],

@@ -3,7 +3,7 @@ use mathlib.Core.Path.{◌≡◌, refl, ◌∙◌}
 use Rattle.std.specs.Prelude.{Ok, Err}
 use Rattle.model.specs.Problem.{Problem}
 use Rattle.model.specs.Verdicts.{Verdict, accepted, ◌then◌}
-use Rattle.model.specs.Refusals.{tables_refusal, bounds_refusal, refusal}
+use Rattle.model.specs.Refusals.{tables_refusal, bounds_refusal, refusal_up_to, refusal}
 use Rattle.model.specs.declared.Refusal.{Refusal}
 use Rattle.checks.specs.Groups.{job_refusal, groups}
 
@@ -34,5 +34,5 @@ by_groups p e = e ∙ grouped p
 
 -- refusals 1 to 18 by parts
 pub by_parts : (p : Problem) {v : Verdict} → v ≡ (job_refusal p then tables_refusal p then bounds_refusal p.path p.limits) → v ≡ refusal p
-unfolding refusal
+unfolding refusal_up_to
 by_parts p e = e ∙ simp then_assoc

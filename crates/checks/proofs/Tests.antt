@@ -15,6 +15,7 @@ use Rattle.model.specs.Numbers.{at, unusable}
 use mir.Val.{Fits}
 use mir.Syntax.{w32}
 use Rattle.model.specs.Lists.{part, total}
+use Rattle.model.specs.Refusals.{most_stations}
 use Rattle.model.proofs.Fits.{total_le}
 
 pub nan_or_low : (x : Float) → (is_nan x || eq x (of_bits binary64 0xfff0000000000000)) ≡ unusable x
@@ -50,6 +51,6 @@ at_part l start len j h = get_or-take len _ j nan h ∙ get_or-drop start l j na
 pub total_next : (l : List ℕ) (k : ℕ) → k < length l → total (drop k l) ≡ get_or l k 0 + total (drop (k + 1) l)
 total_next l k h = rw (add-one, drop-cons l k 0)
 
--- 4,097 counts of 32 bits fit 64 bits
-pub counts_fit : (l : List ℕ) → length l ≤ 4097 → ((k : ℕ) → Fits w32 (get_or l k 0)) → total l < 18446744073709551616
+-- so many counts of 32 bits fit 64 bits
+pub counts_fit : (l : List ℕ) → length l ≤ most_stations → ((k : ℕ) → Fits w32 (get_or l k 0)) → total l < 18446744073709551616
 counts_fit l h f = omega (arith, total_le 4294967295 l (λ k. omega (arith, f k)))

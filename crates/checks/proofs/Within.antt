@@ -13,7 +13,7 @@ use Rattle.checks.specs.Groups.{job_refusal, counts_lengths}
 use Rattle.checks.specs.Limits.{WithinLimits, Counted, Spanned}
 use Rattle.checks.specs.Fitting.{Fitting}
 use Rattle.model.specs.Verdicts.{Verdict, accepted, refuse}
-use Rattle.model.specs.Refusals.{list_refusal, grid_refusal, setup_refusal, tables_refusal, refusal}
+use Rattle.model.specs.Refusals.{list_refusal, grid_refusal, setup_refusal, tables_refusal, most_stations, refusal_up_to, refusal}
 use Rattle.model.specs.declared.Objective.{Objective}
 use Rattle.model.specs.declared.rule.Rule.TheVariants.{TooManyObjectives, ListUnfit, NoMovingInterval}
 use Rattle.model.proofs.Passes.{then_passes, refuse_passes, table_passes}
@@ -31,7 +31,7 @@ within pool i long start len f e =
 pub few : (count : ℕ) → refuse TooManyObjectives 0 (ltb 16 count) ≡ accepted → count ≤ 16
 few count e = ltb-false _ _ ((refuse_passes TooManyObjectives 0 _).0 e)
 
-pub grid_within : (g : List Float) → grid_refusal g ≡ accepted → (3 ≤ length g) × (length g ≤ 4097)
+pub grid_within : (g : List Float) → grid_refusal most_stations g ≡ accepted → (3 ≤ length g) × (length g ≤ most_stations)
 unfolding grid_refusal
 grid_within g e = let h = simp (then_passes, refuse_passes) at e in (ltb-false _ _ h.0, ltb-false _ _ h.1.0)
 
@@ -54,7 +54,7 @@ tables_within p f e =
     let h = simp (then_passes, refuse_passes) at ok in
     record { span = leb-false _ _ h.0; amax = table_passes 2 _ _ h.1.1.1.1.1.0 }
 
-pub stations_within : (g : List Float) {v : Verdict} → v ≡ grid_refusal g → v ≡ accepted → length g - 1 + 1 ≡ length g
+pub stations_within : (g : List Float) {v : Verdict} → v ≡ grid_refusal most_stations g → v ≡ accepted → length g - 1 + 1 ≡ length g
 stations_within g f e = let h = grid_within g (sym f ∙ e) in omega arith
 
 pub job_within : (p : Problem) {v : Verdict} → v ≡ job_refusal p → v ≡ accepted → WithinLimits p
@@ -66,7 +66,7 @@ job_within p f e =
     record { least = g.0; most = g.1; joints = s.0; jobs = s.1 }
 
 pub fitting : (p : Problem) → refusal p ≡ accepted → Fitting p.path p.torque.d p.count p.acc.counts p.jerk.counts p.limits.amax
-unfolding refusal tables_refusal
+unfolding refusal_up_to tables_refusal
 fitting p e =
     let h = simp then_passes at e in
     let g = grid_within p.path.grid h.1.0 in

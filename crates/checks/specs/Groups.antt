@@ -4,13 +4,13 @@ use Rattle.model.specs.Lists.{total}
 use Rattle.model.specs.Problem.{Problem, objectives, n, some, is_thermal, is_torque, is_linear}
 use Rattle.model.specs.declared.rule.Rule.TheVariants.{NoMovingInterval, TooManyRows}
 use Rattle.model.specs.Verdicts.{Verdict, ◌then◌, refuse, lowest, itself}
-use Rattle.model.specs.Refusals.{boundary_refusal, grid_refusal, setup_refusal, table, table_if, most_rows}
+use Rattle.model.specs.Refusals.{boundary_refusal, grid_refusal, setup_refusal, table, table_if, most_stations, most_rows}
 
 module _ (p : Problem) where
   -- 1 to 13
   abbrev pub job_refusal : Verdict
   job_refusal =
-      boundary_refusal p.boundary then grid_refusal p.path.grid then setup_refusal p.torque.d p.count p.slots (n p.path + 1) p.pool
+      boundary_refusal p.boundary then grid_refusal most_stations p.path.grid then setup_refusal p.torque.d p.count p.slots (n p.path + 1) p.pool
 
   -- 15 of tables 0 and 1
   abbrev pub counts_lengths : Verdict

@@ -1,4 +1,4 @@
--- The limits that refusals 4, 5, 8 and 10 set to a problem: "4 fewer than 3 stations. 5 more than 4,097", "8 d is outside 1 to 32", "10 more than 16".
+-- The limits that refusals 4, 5, 8 and 10 set to a problem: "4 fewer than 3 stations", "Refusal 5 now begins at 65,538 stations", "8 d is outside 1 to 32", "10 more than 16".
 use Rattle.std.specs.Prelude.{◌+◌, ◌≤◌, ◌<◌, ◌≡◌, length}
 use Rattle.model.specs.Problem.{Problem, n}
 use Rattle.model.specs.Refusals.{most_stations, most_joints, most_objectives}

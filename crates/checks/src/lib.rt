@@ -9,7 +9,7 @@ ghost use Rattle.model.specs.Problem.{weight};
 ghost use Rattle.model.specs.Lent.{problem_of};
 ghost use Rattle.model.specs.declared.rule.Rule.TheVariants.{WeightUnfit, TooManyRows};
 ghost use Rattle.model.specs.Verdicts.{◌then◌, refuse, lowest, itself};
-ghost use Rattle.model.specs.Refusals.{first_refusal, signs_refusal, boundary_refusal, grid_refusal, list_refusal, scales_refusal, lists_refusal, objectives_refusal, setup_refusal, table_if, unusable_end, crossed, refusal, most_rows};
+ghost use Rattle.model.specs.Refusals.{first_refusal, signs_refusal, boundary_refusal, grid_refusal, list_refusal, scales_refusal, lists_refusal, objectives_refusal, setup_refusal, table_if, unusable_end, crossed, refusal, most_stations, most_rows};
 ghost use Rattle.checks.specs.Groups.{job_refusal};
 
 use limited::Limited;
@@ -86,11 +86,11 @@ fn check_boundary(boundary: Boundary) -> Verdict
 // Refusals 4 to 7.
 #[tactic(auto, using(crate::proofs::Chain::then_ok, crate::proofs::Chain::then_err), unfolding(model::specs::Refusals::grid_refusal))]
 fn check_grid(grid: &[f64]) -> Verdict
-    ensures { result ≡ grid_refusal grid.now }
+    ensures { result ≡ grid_refusal most_stations grid.now }
 {
     let stations = grid.len();
     Rule::TooFewStations.refuse_if(0, stations < 3)?;
-    Rule::TooManyStations.refuse_if(0, 4097 < stations)?;
+    Rule::TooManyStations.refuse_if(0, 65537 < stations)?;
     check_each(
         Rule::GridNotFinite,
         0,

@@ -2,7 +2,7 @@
 
 #![tactic(auto)]
 
-ghost use Rattle.std.specs.Prelude.{[], ◌∷◌, ◌+◌, ◌-◌, ◌*◌, ◌^◌, ◌<◌, ◌≤◌, ltb, length};
+ghost use Rattle.std.specs.Prelude.{[], ◌∷◌, ◌+◌, ◌-◌, ◌*◌, ◌<◌, ◌≤◌, ltb, length};
 ghost use Rattle.model.specs.Lists.{given};
 ghost use Rattle.model.specs.Numbers.{+1};
 ghost use Rattle.model.specs.Problem.{m, col_a, col_b, spacing};
@@ -19,7 +19,7 @@ use model::{Boundary, Buffers, Column, Row, Tally, Term};
 
 // The row that holds a column at a value.
 fn boundary_row(t: Tally, out: &mut Buffers, x: f64, col: Column) -> Tally
-    requires { Room t 1 × (col.at < 2 ^ 32) }
+    requires { Room t 1 }
     ensures { Wrote t out.old result out.new (row x (cell col.at +1 ∷ []) ∷ []) 1 }
 {
     buffers::row(t, out, x, [Term { col, v: 1.0 }])

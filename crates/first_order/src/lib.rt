@@ -4,7 +4,7 @@
 
 mod limits;
 
-ghost use Rattle.std.specs.Prelude.{[], ◌+◌, ◌-◌, ◌*◌, ◌^◌, ◌<◌, ltb, length};
+ghost use Rattle.std.specs.Prelude.{[], ◌+◌, ◌-◌, ◌*◌, ltb, length};
 ghost use Rattle.model.specs.Numbers.{at};
 ghost use Rattle.model.specs.Lists.{over, given};
 ghost use Rattle.model.specs.Problem.{on_grid, m};
@@ -23,7 +23,7 @@ use numbers::is_finite;
 
 // The upper row of station k, where the bound is finite. No grid moves its column.
 fn upper(t: Tally, out: &mut Buffers, k: usize, bound: f64) -> Tally
-    requires { Room t 1 × (k < 2 ^ 32) }
+    requires { Room t 1 }
     ensures { Wrote t out.old result out.new (upper_row (on_grid []) k bound) 1 }
 {
     if !is_finite(bound) {
@@ -38,7 +38,7 @@ fn upper(t: Tally, out: &mut Buffers, k: usize, bound: f64) -> Tally
 
 // The rows of an end whose count is positive: k is its moving station.
 fn end_rows(t: Tally, out: &mut Buffers, count: usize, k: usize, bounds: Bounds) -> Tally
-    requires { Room t 2 × (k < 2 ^ 32) }
+    requires { Room t 2 }
     ensures { Wrote t out.old result out.new (given (ltb 0 count) (end_rows (on_grid []) k bounds)) 2 }
 {
     if count == 0 {

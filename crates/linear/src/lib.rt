@@ -7,7 +7,7 @@ mod end;
 mod objective;
 mod parts;
 
-ghost use Rattle.std.specs.Prelude.{◌+◌, ◌*◌, ◌^◌, ◌≤◌, length};
+ghost use Rattle.std.specs.Prelude.{◌+◌, ◌*◌, ◌^◌, ◌<◌, length};
 ghost use Rattle.model.specs.Numbers.{+0};
 ghost use Rattle.model.specs.Lists.{joined};
 ghost use Rattle.model.specs.Problem.{n};
@@ -62,7 +62,7 @@ pub fn column_cost(costs: &LinearCosts, c: Column) -> f64
 
 // The cost of the a and b columns: each told and written on its own, so that nothing is read back. Without a Linear it is 0.
 pub fn ab_costs(t: Tally, out: &mut Buffers, costs: &LinearCosts) -> Tally
-    requires { t.columns.at + 2 * length costs.now.input.path.grid.now ≤ 2 ^ 32 }
+    requires { t.columns.at + 2 * length costs.now.input.path.grid.now < 2 ^ 64 }
     ensures { FillsCost t out.old result out.new (cost_in costs.now.input costs.now.objectives.now) 0 (2 * (n (path_of costs.now.input.path) + 1)) }
 {
     let count = 2 * costs.input.path.grid.len();

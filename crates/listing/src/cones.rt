@@ -59,7 +59,7 @@ impl Assembled<'_> {
         let mut first = Row { at: 0 };
         // Over numbers: the buffers lent may hold fewer kinds and dimensions than there are cones.
         for j in 0..self.counts.cones {
-            let dimension = item_or(self.contents.dimensions, j, 0) as usize;
+            let dimension = item_or(self.contents.dimensions, j, 0);
             let end = Row {
                 at: first.at.saturating_add(dimension).min(self.counts.rows),
             };

@@ -8,12 +8,12 @@ use model::Buffers;
 // What buffers 0 to 6 and the index hold, each lent by `&`. The page took eight slices by `&` from the start, and `&Buffers` would ask its callers for `&mut` ones.
 #[derive(Clone, Copy)]
 pub struct Contents<'a> {
-    pub rows: &'a [u32],
-    pub columns: &'a [u32],
+    pub rows: &'a [usize],
+    pub columns: &'a [usize],
     pub values: &'a [f64],
     pub right: &'a [f64],
     pub kinds: &'a [u8],
-    pub dimensions: &'a [u32],
+    pub dimensions: &'a [usize],
     pub cost: &'a [f64],
     pub index: &'a [usize],
 }

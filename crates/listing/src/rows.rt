@@ -34,7 +34,7 @@ impl Assembled<'_> {
         ensures { result.at ≡ get_or self.now.contents.rows.now i 0 }
     {
         Row {
-            at: item_or(self.contents.rows, i, 0) as usize,
+            at: item_or(self.contents.rows, i, 0),
         }
     }
 
@@ -42,7 +42,7 @@ impl Assembled<'_> {
         ensures { result.at ≡ get_or self.now.contents.columns.now i 0 }
     {
         Column {
-            at: item_or(self.contents.columns, i, 0) as usize,
+            at: item_or(self.contents.columns, i, 0),
         }
     }
 

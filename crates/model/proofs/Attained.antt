@@ -56,7 +56,7 @@ inside l k long e =
     record { neither = omega arith; not_last = omega arith; not_first = omega arith }
 
 -- an upper bound at every station between the ends
-each_upper : (f : ℕ → Float) (k c : ℕ) → ((i : ℕ) → k ≤ i → i < k + c → finite (f i) ≡ true) → sum_over (λ i. upper (f i)) k c ≡ c
+pub each_upper : (f : ℕ → Float) (k c : ℕ) → ((i : ℕ) → k ≤ i → i < k + c → finite (f i) ≡ true) → sum_over (λ i. upper (f i)) k c ≡ c
 each_upper f k c h = sum_over_ext (λ i. upper (f i)) (λ i. 1) k c (λ i a b. rw (h i a b)) ∙ sum_over_const 1 k c ∙ mul-one c
 
 rootless : (os : List Objective) → All (λ o. (is_torque o || is_linear o) ≡ true) os → some uses_root os ≡ false

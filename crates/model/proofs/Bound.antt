@@ -27,7 +27,7 @@ none : (k c : ℕ) → sum_over (λ i. 0) k c ≡ 0
 none k zero = refl
 none k (suc c) = let h = none (suc k) c in omega arith
 
-part_total : (l : List ℕ) (k c : ℕ) → sum_over (λ i. get_or l i 0) k c ≤ total l
+pub part_total : (l : List ℕ) (k c : ℕ) → sum_over (λ i. get_or l i 0) k c ≤ total l
 part_total [] k c = omega (arith, none k c)
 part_total (x ∷ xs) zero zero = omega arith
 part_total (x ∷ xs) zero (suc c) = let h = part_total xs 0 c in omega (arith, shift (λ i. get_or (x ∷ xs) i 0) 0 c)

@@ -15,9 +15,9 @@ use Rattle.model.specs.declared.rule.Rule.{Rule}
 use Rattle.model.specs.declared.rule.Rule.TheVariants.{BufferTooShort, IndexTooShort}
 use Rattle.model.proofs.Passes.{then_passes}
 use Rattle.model.proofs.Room.{then_accepted, needs, Enough, Short, Room, enough, short, room, room_enough, room_short, HasIndex, index_short, index_passes}
-use Rattle.model.proofs.Fits.{Small}
+use Rattle.model.proofs.Fits.{AtMost, most_counts}
 use Rattle.model.proofs.Program.{program}
-use Rattle.model.proofs.Written.{Writes, Formed, writes, formed}
+use Rattle.model.proofs.Written.{Writes, Formed, Stored, writes, formed, stored}
 
 -- a problem "is accepted if no refusal of the assembly applies save for a short buffer"
 abbrev pub Acceptable : Problem → Type 0
@@ -47,8 +47,10 @@ pub record Demand3 (p : Problem) : Type 0 where
   pub no_index : (b : Buffers) → Enough (counts p) b → length b.index < index_places (length (objectives p)) → assembly p b ≡ refused_as p b IndexTooShort 0
   -- "Entries stay within document 01's bound."
   pub bounded : (counts p).entries ≤ entry_bound p
-  -- document 01: "Row numbers, column numbers and cone dimensions are written as 32-bit whole numbers". They are below 2 ^ 25
-  pub fits : Small 33554431 (counts p)
+  -- request 10: "The bound and the room rule speak of the longer grids too." The four counts are at most 470482434, 117767938, 1114130 and 33685506
+  pub fits : AtMost most_counts (counts p)
+  -- "Row numbers, column numbers, cone dimensions .. grow from 32 to 64 bits wherever they are stored": 64 bits hold each that is written
+  pub stored : (b : Buffers) → HasIndex p b → Enough (counts p) b → Stored (counts p) (assembly p b).buffers
   -- "A successful assembly writes the entries, right side and cones of demand 2's definition."
   pub holds : (b : Buffers) → HasIndex p b → Enough (counts p) b → Writes p b (assembly p b).buffers
   -- "In these the cone dimensions add up to the rows and each row lies in exactly one cone; each entry names an existing row and column of
@@ -118,7 +120,8 @@ module _ (p : Problem) (ok : Acceptable p) where
         one_fewer = λ b i lt e h. failure b i (record { index = lt; short = omega arith; before = λ j x. h j (omega arith) (omega arith) });
         no_index = no_index;
         bounded = omega arith;
-        fits = f.small;
+        fits = f.most;
+        stored = λ b x h. rw (success b x h) (stored (counts p) (written p b) f.most (formed p f b (written p b) (writes p f b x h)));
         holds = λ b x h. rw (success b x h) (writes p f b x h);
         well_formed = λ b x h. rw (success b x h) (formed p f b (written p b) (writes p f b x h));
       }

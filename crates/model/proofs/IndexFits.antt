@@ -1,4 +1,4 @@
--- Request 6: the numbers of an accepted problem's index are below 2 ^ 25, so they fit 32 bits and 64.
+-- Requests 6 and 10: no number of an accepted problem's index is above the most entries, so 64 bits hold each.
 use Prim.Native.Nat.{ℕ, ◌+◌, ◌≤◌}
 use native.Mathlib.Omega.{arith}
 use mathlib.Core.Path.{◌≡◌}
@@ -13,6 +13,7 @@ use Rattle.model.specs.Counts.{◌plus◌}
 use Rattle.model.specs.Owners.{eight, size_of, owners_from, tally_start, owners, index}
 use Rattle.model.specs.declared.FourCounts.{FourCounts}
 use Rattle.model.proofs.All.{All}
+use Rattle.model.proofs.Fits.{most_counts}
 use Rattle.model.proofs.Program.{program}
 use Rattle.model.proofs.Owned.{all_entries, all_rows, all_cones, all_columns}
 
@@ -23,12 +24,12 @@ small B t (b ∷ bs) e r c k =
     let rest = small B (t plus size_of b) bs (omega arith) (omega arith) (omega arith) (omega arith) in
     (omega arith, (omega arith, (omega arith, (omega arith, (omega arith, (omega arith, (omega arith, (omega arith, rest))))))))
 
-pub index_small : (p : Problem) → refusal p ≡ accepted → All (λ x. x ≤ 33554431) (index p)
+pub index_small : (p : Problem) → refusal p ≡ accepted → All (λ x. x ≤ most_counts.entries) (index p)
 unfolding index owners
 index_small p ok =
     let f = program p ok in
-    let s = f.small in
-    small 33554431 (tally_start p) (blocks p)
+    let s = f.most in
+    small most_counts.entries (tally_start p) (blocks p)
     (omega (arith, s.entries, f.entries_counted, all_entries p))
     (omega (arith, s.rows, f.rows_counted, all_rows p))
     (omega (arith, s.cones, f.cones_counted, all_cones p))

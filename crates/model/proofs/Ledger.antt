@@ -26,7 +26,7 @@ use Rattle.model.specs.declared.Objective.TheVariants.{Time}
 
 -- whoever unfolds this unfolds every definition that the table computes with
 unfoldable pub everything : Unit {0}
-unfolding Verdicts.◌then◌ Verdicts.refuse Verdicts.lowest Sizes.m Sizes.ends Sizes.L Sizes.skip Sizes.stop Refusals.grid_refusal Refusals.list_refusal Refusals.scales_refusal Refusals.lists_refusal Refusals.objectives_refusal Refusals.setup_refusal Refusals.table Refusals.table_if Refusals.tables_refusal Refusals.unusable_end Refusals.crossed Refusals.bounds_refusal Refusals.refusal Standard.boundary_rows Standard.stationary_row Standard.moving_rows Standard.equalities Standard.upper_row Standard.end_rows Program.positive_row Standard.interval_rows Standard.first_order Standard.acceleration_rows Standard.backward_rows Standard.forward_rows Standard.jerk_rows_at Standard.inequalities Standard.standard Standard.root_cone Standard.root_stage Standard.root Objectives.time_weights Objectives.time_cone Objectives.time_block Objectives.thermal_cone Objectives.thermal_block Objectives.end_torque_rows Objectives.step_torque_rows Objectives.torque_block Objectives.end_charge Objectives.linear_block Objectives.objective_block Assembled.objective_blocks Assembled.blocks Assembled.cones Assembled.bands Assembled.entries Assembled.right_side Assembled.cost Assembled.row_numbers Assembled.column_numbers Assembled.values Assembled.cone_kinds Assembled.cone_dimensions Assembled.list_lengths Counts.uppers Counts.acc_inside Counts.jerk_inside Counts.standard_counts Counts.root_counts Counts.objective_counts Counts.objectives_counts Counts.counts Counts.objective_bound Counts.objectives_bound Counts.entry_bound Answers.sizing Owners.size_of Owners.owners Owners.index Answers.room_refusal Answers.index_refusal Answers.finite_refusal Answers.outcome Answers.written Answers.result Answers.assembly Ieee.neg Ieee.add Ieee.sub Ieee.mul Ieee.div Ieee.lt Ieee.eq Ieee.of_bits
+unfolding Verdicts.◌then◌ Verdicts.refuse Verdicts.lowest Sizes.m Sizes.ends Sizes.L Sizes.skip Sizes.stop Refusals.grid_refusal Refusals.list_refusal Refusals.scales_refusal Refusals.lists_refusal Refusals.objectives_refusal Refusals.setup_refusal Refusals.table Refusals.table_if Refusals.tables_refusal Refusals.unusable_end Refusals.crossed Refusals.bounds_refusal Refusals.refusal_up_to Standard.boundary_rows Standard.stationary_row Standard.moving_rows Standard.equalities Standard.upper_row Standard.end_rows Program.positive_row Standard.interval_rows Standard.first_order Standard.acceleration_rows Standard.backward_rows Standard.forward_rows Standard.jerk_rows_at Standard.inequalities Standard.standard Standard.root_cone Standard.root_stage Standard.root Objectives.time_weights Objectives.time_cone Objectives.time_block Objectives.thermal_cone Objectives.thermal_block Objectives.end_torque_rows Objectives.step_torque_rows Objectives.torque_block Objectives.end_charge Objectives.linear_block Objectives.objective_block Assembled.objective_blocks Assembled.blocks Assembled.cones Assembled.bands Assembled.entries Assembled.right_side Assembled.cost Assembled.row_numbers Assembled.column_numbers Assembled.values Assembled.cone_kinds Assembled.cone_dimensions Assembled.list_lengths Counts.uppers Counts.acc_inside Counts.jerk_inside Counts.standard_counts Counts.root_counts Counts.objective_counts Counts.objectives_counts Counts.counts Counts.objective_bound Counts.objectives_bound Counts.entry_bound Answers.sizing Owners.size_of Owners.owners Owners.index Answers.room_refusal Answers.index_refusal Answers.finite_refusal Answers.outcome Answers.written Answers.result Answers.assembly Ieee.neg Ieee.add Ieee.sub Ieee.mul Ieee.div Ieee.lt Ieee.eq Ieee.of_bits
 everything = tt
 
 pub ledger : map line cases ≡ table

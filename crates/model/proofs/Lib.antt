@@ -17,6 +17,7 @@ pub mod Passes
 pub mod Ready
 pub mod Usable
 pub mod Fits
+pub mod Largest
 pub mod Program
 pub mod Room
 pub mod ConeKinds
@@ -24,6 +25,8 @@ pub mod Finite
 pub mod Written
 pub mod Demand1
 pub mod Demand3
+pub mod Before
+pub mod Longer
 pub mod Weights
 pub mod Request3
 pub mod Integers

@@ -14,7 +14,7 @@ use Rattle.model.proofs.Counted.{counted}
 use Rattle.model.proofs.Whole.{entry_inside, entry_once}
 use Rattle.model.proofs.InCone.{OneCone, dimensions_rows, row_cone}
 use Rattle.model.proofs.Bound.{entries_few}
-use Rattle.model.proofs.Fits.{Small, counts_small}
+use Rattle.model.proofs.Fits.{AtMost, most_counts, counts_most}
 use Rattle.model.proofs.Usable.{usable, usable_sizes}
 
 -- e is any entry: what `get_or` gives past the end
@@ -29,7 +29,7 @@ pub record Program (p : Problem) : Type 0 where
   pub once : (i j : ℕ) (e : Entry) → i < length (entries p) → j < length (entries p)
       → (get_or (entries p) i e).row ≡ (get_or (entries p) j e).row → (get_or (entries p) i e).column ≡ (get_or (entries p) j e).column → i ≡ j
   pub dimensions : total (cone_dimensions p) ≡ length (right_side p)
-  pub small : Small 33554431 (counts p)
+  pub most : AtMost most_counts (counts p)
   pub one_cone : (r : ℕ) → r < length (right_side p) → OneCone (cone_dimensions p) r
 
 pub program : (p : Problem) → refusal p ≡ accepted → Program p
@@ -39,7 +39,7 @@ program p ok =
     let l = usable_sizes p u in
     let c = counted p l in
     record {
-      small = counts_small p l u;
+      most = counts_most p l u;
       entries_counted = ap (λ (t : FourCounts). t.entries) c;
       rows_counted = ap (λ (t : FourCounts). t.rows) c;
       cones_counted = ap (λ (t : FourCounts). t.cones) c;

@@ -7,6 +7,7 @@ use lib.ListN.{length, get_or}
 use lib.Ieee.{nan}
 use Rattle.model.specs.Lists.{total}
 use Rattle.model.specs.Problem.{Problem, objectives, some, is_thermal, is_torque, is_linear}
+use Rattle.model.specs.Refusals.{most_stations}
 use Rattle.model.specs.declared.Objective.{Objective}
 use Rattle.model.specs.declared.Objective.TheVariants.{Time, ThermalEnergy, TotalVariationTorque, Linear}
 
@@ -50,7 +51,7 @@ CountingWith p os = Counting p (some is_thermal os) (some is_torque os) (some is
 
 pub record Usable (p : Problem) : Type 0 where
   -- 4, 5 and 14
-  pub sized : (2 < length p.path.grid) × (length p.path.grid ≤ 4097) × (p.path.N0 + p.path.N1 + 1 < length p.path.grid)
+  pub sized : (2 < length p.path.grid) × (length p.path.grid ≤ most_stations) × (p.path.N0 + p.path.N1 + 1 < length p.path.grid)
   -- 8 to 10
   pub joints : (0 < p.torque.d) × (p.torque.d ≤ 32)
   pub count : (0 < p.count) × (p.count ≤ 16)

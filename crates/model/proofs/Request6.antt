@@ -21,6 +21,7 @@ use Rattle.model.proofs.Owned.{none, Owned, owned, blocks_number}
 use Rattle.model.proofs.Slices.{Sliced, sliced}
 use Rattle.model.proofs.OwnersTold.{OwnersTold, owners_told}
 use Rattle.model.proofs.Reweighed.{Unmoved, weight_alone}
+use Rattle.model.proofs.Fits.{most_counts}
 use Rattle.model.proofs.IndexFits.{index_small}
 
 -- For every accepted problem; owner 0 has the standard rows, owner 1 the root stage, owner 2 + i objective i
@@ -34,8 +35,8 @@ pub record Request6 (p : Problem) : Type 0 where
   -- "two accepted problems that differ only in the weight of one objective other than Linear have equal entries, right side and cones, and equal cost outside that
   -- owner's columns"; whether the second is accepted does not matter
   pub weight : (i : ℕ) (w : Float) → i < length (objectives p) → is_linear (get_or (objectives p) i (Time nan)) ≡ false → Unmoved p (reweighed p i w) (2 + i)
-  -- 32 bits would do for the index
-  pub fits : All (λ x. x ≤ 33554431) (index p)
+  -- "all numbers of the index grow from 32 to 64 bits": at most the most entries, 470482434
+  pub fits : All (λ x. x ≤ most_counts.entries) (index p)
 
 pub request6 : (p : Problem) → Acceptable p → Request6 p
 unfolding written

@@ -15,7 +15,7 @@ use borrow.Author.Tests.{ltb-true, eqb-true, not-false}
 use Rattle.model.specs.Numbers.{at, ◌⊗◌, half, unfit, finite}
 use Rattle.model.specs.Problem.{Problem, Path, objectives, n, stop, s}
 use Rattle.model.specs.Verdicts.{accepted, ◌then◌, lowest, itself}
-use Rattle.model.specs.Refusals.{refusal, boundary_refusal, grid_refusal, setup_refusal, tables_refusal, bounds_refusal, objectives_refusal}
+use Rattle.model.specs.Refusals.{refusal, refusal_up_to, most_stations, boundary_refusal, grid_refusal, setup_refusal, tables_refusal, bounds_refusal, objectives_refusal}
 use Rattle.model.specs.Objectives.{time_weights}
 use Rattle.model.specs.Conic.{units}
 use Rattle.model.specs.Meaning.{◌≼◌}
@@ -46,13 +46,13 @@ module _ (p : Problem) (ok : refusal p ≡ accepted) where
   abbrev q : Path
   q = p.path
 
-  later : (grid_refusal q.grid then setup_refusal p.torque.d p.count p.slots (n q + 1) p.pool then tables_refusal p then bounds_refusal q p.limits) ≡ accepted
-  unfolding refusal
+  later : (grid_refusal most_stations q.grid then setup_refusal p.torque.d p.count p.slots (n q + 1) p.pool then tables_refusal p then bounds_refusal q p.limits) ≡ accepted
+  unfolding refusal_up_to
   later = ((then_passes (boundary_refusal p.boundary) _).0 ok).1
 
   grid_passes : (lowest GridNotFinite itself (λ k. not (finite (at q.grid k))) 0 (length q.grid) ≡ accepted) × (lowest GridNotRising itself (λ k. not (lt (at q.grid (k - 1)) (at q.grid k))) 1 (length q.grid - 1) ≡ accepted)
   unfolding grid_refusal
-  grid_passes = (simp (then_passes, refuse_passes) at ((then_passes (grid_refusal q.grid) _).0 later).0).1.1
+  grid_passes = (simp (then_passes, refuse_passes) at ((then_passes (grid_refusal most_stations q.grid) _).0 later).0).1.1
 
   grid_finite : (k : ℕ) → k ≤ n q → Sizes q → finite (s q k) ≡ true
   grid_finite k h l = not-false _ (lowest_passes GridNotFinite itself _ 0 (length q.grid) grid_passes.0 k (omega arith) (omega arith))
@@ -109,6 +109,6 @@ module _ (p : Problem) (ok : refusal p ≡ accepted) where
   pub time_fit : (w : Float) → objectives p ≡ Time w ∷ [] → unfit w ≡ false
   unfolding setup_refusal objectives_refusal
   time_fit w e =
-      let h = ((then_passes (setup_refusal p.torque.d p.count p.slots (n q + 1) p.pool) _).0 ((then_passes (grid_refusal q.grid) _).0 later).1).0 in
+      let h = ((then_passes (setup_refusal p.torque.d p.count p.slots (n q + 1) p.pool) _).0 ((then_passes (grid_refusal most_stations q.grid) _).0 later).1).0 in
       let g = simp (then_passes, refuse_passes) at h in
       (simp (then_passes, refuse_passes) at (rw e at g.1.1.1)).0

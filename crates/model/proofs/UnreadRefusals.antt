@@ -14,7 +14,7 @@ use Rattle.model.specs.Numbers.{at, unusable, unfit}
 use Rattle.model.specs.Lists.{part}
 use Rattle.model.specs.Problem.{Problem, Path, objectives, n, m, weight, some, is_thermal, is_torque, is_linear}
 use Rattle.model.specs.Verdicts.{Verdict, accepted, ◌then◌, refuse, lowest}
-use Rattle.model.specs.Refusals.{boundary_refusal, grid_refusal, list_refusal, scales_refusal, lists_refusal, objectives_refusal, setup_refusal, table_if, tables_refusal, unusable_end, crossed, bounds_refusal, refusal}
+use Rattle.model.specs.Refusals.{boundary_refusal, grid_refusal, list_refusal, scales_refusal, lists_refusal, objectives_refusal, setup_refusal, table_if, tables_refusal, unusable_end, crossed, bounds_refusal, most_stations, refusal_up_to, refusal}
 use Rattle.model.specs.Used.{SameTorque, SameFor, Agree}
 use Rattle.model.specs.declared.Boundary.{Boundary}
 use Rattle.model.specs.declared.Bounds.{Bounds}
@@ -171,6 +171,6 @@ module _ (p p' : Problem) where
         (ap₂ ◌then◌ (ap (refuse BoundsCrossed 0) (end_same crossed p.path.N0 refl u.limits.start)) (ap (refuse BoundsCrossed 1) (end_same crossed p.path.N1 refl u.limits.end)))))
 
     pub refusal_same : refusal p ≡ refusal r
-    unfolding refusal
+    unfolding refusal_up_to
     refusal_same =
-        λ j. boundary_refusal p.boundary then grid_refusal p.path.grid then setup_same j then tables_same j then bounds_same j
+        λ j. boundary_refusal p.boundary then grid_refusal most_stations p.path.grid then setup_same j then tables_same j then bounds_same j

@@ -14,7 +14,7 @@ use borrow.Author.Tests.{ltb-false, eqb-true, not-false}
 use Rattle.model.specs.Problem.{Problem, objectives, n, some, is_thermal, is_torque, is_linear}
 pub use Rattle.model.proofs.Ready.{Listed, TorqueTables, ThermalTables, RootTables, Ready, Counting, CountingWith, Usable}
 use Rattle.model.specs.Verdicts.{accepted, lowest, itself}
-use Rattle.model.specs.Refusals.{refusal, grid_refusal, setup_refusal, tables_refusal, objectives_refusal, lists_refusal, scales_refusal, list_refusal}
+use Rattle.model.specs.Refusals.{refusal, refusal_up_to, grid_refusal, setup_refusal, tables_refusal, objectives_refusal, lists_refusal, scales_refusal, list_refusal}
 use Rattle.model.specs.declared.Objective.{Objective}
 use Rattle.model.specs.declared.Objective.TheVariants.{Time, ThermalEnergy, TotalVariationTorque, Linear}
 use Rattle.model.specs.declared.rule.Rule.TheVariants.{TooManyRows}
@@ -79,7 +79,7 @@ module _ (p : Problem) where
         e ∙ ap (λ (x : ℕ). p.torque.d * x) k ∙ mul_comm p.torque.d (length p.path.grid)
 
   pub usable : refusal p ≡ accepted → Usable p
-  unfolding refusal grid_refusal setup_refusal tables_refusal
+  unfolding refusal_up_to grid_refusal setup_refusal tables_refusal
   usable ok =
       let h = simp passing at ok in
       let grid : 2 < length p.path.grid = h.1.0.0 in

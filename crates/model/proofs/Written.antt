@@ -1,5 +1,5 @@
 -- What the buffers hold after a success: the definition's lists, then what they held before; and, index by index, a matrix and cones in order.
-use Prim.Native.Nat.{ℕ, ◌≤◌, ◌<◌}
+use Prim.Native.Nat.{ℕ, ◌^◌, ◌≤◌, ◌<◌}
 use native.Mathlib.Omega.{arith}
 use mathlib.Core.Path.{◌≡◌, sym, ap, ◌∙◌}
 use mathlib.Core.List.{List, map}
@@ -15,6 +15,8 @@ use Rattle.model.specs.Owners.{index, index_places}
 use Rattle.model.specs.Answers.{Buffers, onto, written}
 use Rattle.model.specs.declared.FourCounts.{FourCounts}
 use Rattle.model.proofs.All.{All, all_at}
+use Rattle.model.proofs.Bound.{part_total}
+use Rattle.model.proofs.Fits.{AtMost, most_counts}
 use Rattle.model.proofs.InCone.{OneCone}
 use Rattle.model.proofs.ConeKinds.{kinds_known}
 use Rattle.model.proofs.Room.{Enough, HasIndex}
@@ -63,6 +65,20 @@ pub record Formed (t : FourCounts) (b : Buffers) : Type 0 where
   pub one_cone : (r : ℕ) → r < t.rows → OneCone (take t.cones b.dimensions) r
   -- "Cone kinds are 0 zero, 1 nonnegative, 2 second-order."
   pub kinds : (i : ℕ) → i < t.cones → get_or b.kinds i 0 < 3
+
+-- "wherever they are stored": 64 bits hold each row number, column number and dimension
+pub record Stored (t : FourCounts) (b : Buffers) : Type 0 where
+  pub rows : (i : ℕ) → i < t.entries → get_or b.rows i 0 < 2 ^ 64
+  pub columns : (i : ℕ) → i < t.entries → get_or b.columns i 0 < 2 ^ 64
+  pub dimensions : (i : ℕ) → i < t.cones → get_or b.dimensions i 0 < 2 ^ 64
+
+pub stored : (t : FourCounts) (b : Buffers) → AtMost most_counts t → Formed t b → Stored t b
+stored t b most f =
+    record {
+      rows = λ i lt. let h = f.inside i lt in omega arith;
+      columns = λ i lt. let h = f.inside i lt in omega arith;
+      dimensions = λ i lt. omega (arith, part_total (take t.cones b.dimensions) i 1, f.dimensions, get_or-take t.cones b.dimensions i 0 lt);
+    }
 
 module _ (p : Problem) (f : Program p) where
   pub writes : (b : Buffers) → HasIndex p b → Enough (counts p) b → Writes p b (written p b)

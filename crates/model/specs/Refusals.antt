@@ -7,9 +7,10 @@ use Rattle.model.specs.Problem.{Problem, Path, Limits, objectives, n, m, weight,
 use Rattle.model.specs.Verdicts.{Verdict, accepted, ◌then◌, refuse, lowest, itself}
 use Rattle.model.specs.declared.rule.Rule.TheVariants.{BoundaryNotFinite, BoundaryNegative, BackwardAtRest, TooFewStations, TooManyStations, GridNotFinite, GridNotRising, DimensionOutOfRange, NoObjective, TooManyObjectives, WeightUnfit, ListUnfit, ScaleUnfit, NoMovingInterval, TableLength, TooManyRows, BoundUnusable, BoundsCrossed}
 
--- the most stations, joints, objectives, and rows of a station in a table: "5 more than 4,097", "8 d is outside 1 to 32", "10 more than 16", "16 a row count is above 256"
+-- the most stations, joints, objectives, and rows of a station in a table: "Refusal 5 now begins at 65,538 stations" (request 10; 4,097 were the most before),
+-- "8 d is outside 1 to 32", "10 more than 16", "16 a row count is above 256"
 abbrev pub most_stations : ℕ
-most_stations = 4097
+most_stations = 65537
 
 abbrev pub most_joints : ℕ
 most_joints = 32
@@ -35,11 +36,11 @@ signs_refusal b =
 abbrev pub boundary_refusal : Boundary → Verdict
 boundary_refusal b = first_refusal b then signs_refusal b
 
--- "4 fewer than 3 stations. 5 more than 4,097." "6 a grid number is not finite", "7 a grid number is not above the one before; place is the first such station"
-unfoldable pub grid_refusal : List Float → Verdict
-grid_refusal g =
+-- "4 fewer than 3 stations. 5 more than" the limit. "6 a grid number is not finite", "7 a grid number is not above the one before; place is the first such station"
+unfoldable pub grid_refusal : ℕ → List Float → Verdict
+grid_refusal limit g =
     refuse TooFewStations 0 (ltb (length g) 3)
-    then refuse TooManyStations 0 (ltb most_stations (length g))
+    then refuse TooManyStations 0 (ltb limit (length g))
     then lowest GridNotFinite itself (λ k. not (finite (at g k))) 0 (length g)
     then lowest GridNotRising itself (λ k. not (lt (at g (k - 1)) (at g k))) 1 (length g - 1)
 
@@ -127,11 +128,14 @@ bounds_refusal q l =
     then refuse BoundsCrossed 0 (crossed q.N0 l.start)
     then refuse BoundsCrossed 1 (crossed q.N1 l.end)
 
--- 1 to 18
-unfoldable pub refusal : Problem → Verdict
-refusal p =
+-- 1 to 18, for grids of at most so many stations: what a longer limit changes is a theorem between two of them (proofs/Longer.antt)
+unfoldable pub refusal_up_to : ℕ → Problem → Verdict
+refusal_up_to limit p =
     boundary_refusal p.boundary
-    then grid_refusal p.path.grid
+    then grid_refusal limit p.path.grid
     then setup_refusal p.torque.d p.count p.slots (n p.path + 1) p.pool
     then tables_refusal p
     then bounds_refusal p.path p.limits
+
+abbrev pub refusal : Problem → Verdict
+refusal = refusal_up_to most_stations

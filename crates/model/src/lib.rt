@@ -4,8 +4,7 @@
 
 mod rule;
 
-ghost use Rattle.std.specs.Prelude.{◌≡◌, ◌≤◌, Err, take};
-ghost use Rattle.model.specs.Refusals.{most_objectives};
+ghost use Rattle.std.specs.Prelude.{◌≡◌, Err, take};
 ghost use Rattle.model.specs.Counts.{four_counts};
 ghost use Rattle.model.specs.OwnerAnswers.{told_owner};
 
@@ -224,22 +223,21 @@ pub struct Problem<'a> {
 impl<'a> Problem<'a> {
     // The objectives that count.
     pub fn listed(&self) -> &[Objective]
-        requires { self.now.job.count ≤ most_objectives }
         ensures { result.now ≡ take self.now.job.count self.now.objectives }
     {
-        &self.objectives[..self.job.count]
+        &self.objectives[..self.job.count.min(16)]
     }
 }
 
-// Buffers 0 to 6, and the index.
+// Buffers 0 to 6, and the index. A usize is a whole number of 64 bits.
 #[derive(Drop)]
 pub struct Buffers<'a> {
-    pub rows: &'a mut [u32],
-    pub columns: &'a mut [u32],
+    pub rows: &'a mut [usize],
+    pub columns: &'a mut [usize],
     pub values: &'a mut [f64],
     pub right: &'a mut [f64],
     pub kinds: &'a mut [u8],
-    pub dimensions: &'a mut [u32],
+    pub dimensions: &'a mut [usize],
     pub cost: &'a mut [f64],
     pub index: &'a mut [usize],
 }

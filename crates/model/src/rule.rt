@@ -16,7 +16,7 @@ pub enum Rule {
     BackwardAtRest = 3,
     // "4 fewer than 3 stations."
     TooFewStations = 4,
-    // "5 more than 4,097."
+    // "Refusal 5 now begins at 65,538 stations."
     TooManyStations = 5,
     // "6 a grid number is not finite"
     GridNotFinite = 6,

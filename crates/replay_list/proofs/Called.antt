@@ -14,7 +14,7 @@ use Rattle.copp3_c.specs.declared.ObjectiveRecords.{ObjectiveRecords}
 use Rattle.copp3_c.specs.declared.AnswerRecord.{AnswerRecord}
 use Rattle.copp3_c.specs.Exported.{Exported, exported}
 use Rattle.replay_list.specs.declared.input.Places.{Places}
-use Rattle.replay_list.specs.File.{item_at, expected_number, expected_bits, expected_byte}
+use Rattle.replay_list.specs.File.{item_at, expected_bits, expected_byte}
 use Rattle.replay_list.specs.Format.{assembly_at, index_written, held_at}
 use Rattle.replay_list.specs.Agreement.{assembled, lent_buffers, places_here, BuffersHold, LentFit, ResultAgrees}
 use Rattle.replay_list.specs.Arrays.{fronts}
@@ -34,12 +34,12 @@ lent {A} a m n k exit e h l =
     }
 
 pub record AllLent (n : ℕ → ℕ) (entry exit : Buffers) : Type 0 where
-  pub rows_lent : Lent 2779096485 (n 0) entry.rows exit.rows
-  pub columns_lent : Lent 2779096485 (n 1) entry.columns exit.columns
+  pub rows_lent : Lent 13876516240719085568 (n 0) entry.rows exit.rows
+  pub columns_lent : Lent 13876516240719085568 (n 1) entry.columns exit.columns
   pub values_lent : Lent (of_bits binary64 13876516240719085568) (n 2) entry.values exit.values
   pub right_lent : Lent (of_bits binary64 13876516240719085568) (n 3) entry.right exit.right
   pub kinds_lent : Lent 165 (n 4) entry.kinds exit.kinds
-  pub dimensions_lent : Lent 2779096485 (n 5) entry.dimensions exit.dimensions
+  pub dimensions_lent : Lent 13876516240719085568 (n 5) entry.dimensions exit.dimensions
   pub cost_lent : Lent (of_bits binary64 13876516240719085568) (n 6) entry.cost exit.cost
   pub index_lent : Lent 13876516240719085568 (n 7) entry.index exit.index
 
@@ -81,12 +81,12 @@ module _ (s : List ℕ) (at : ℕ) (fit : LentFit s at) where
   fronts_hold held a w b h =
       let whole : ℕ → ℕ = λ x. x in
       record {
-        in_rows = front_holds whole (expected_number s held a.entries) 0 b.rows 128 _ fit.rows_fit h.in_rows;
-        in_columns = front_holds whole (expected_number s (held_at held a w).columns a.entries) 0 b.columns 128 _ fit.columns_fit h.in_columns;
+        in_rows = front_holds whole (expected_bits s held a.entries) 0 b.rows 128 _ fit.rows_fit h.in_rows;
+        in_columns = front_holds whole (expected_bits s (held_at held a w).columns a.entries) 0 b.columns 128 _ fit.columns_fit h.in_columns;
         in_values = front_holds (to_bits binary64) (expected_bits s (held_at held a w).values a.entries) nan b.values 128 _ fit.values_fit h.in_values;
         in_right = front_holds (to_bits binary64) (expected_bits s (held_at held a w).right a.rows) nan b.right 128 _ fit.right_fit h.in_right;
         in_kinds = front_holds whole (expected_byte s (held_at held a w).kinds a.cones) 0 b.kinds 128 _ fit.kinds_fit h.in_kinds;
-        in_dimensions = front_holds whole (expected_number s (held_at held a w).dimensions a.cones) 0 b.dimensions 128 _ fit.dimensions_fit h.in_dimensions;
+        in_dimensions = front_holds whole (expected_bits s (held_at held a w).dimensions a.cones) 0 b.dimensions 128 _ fit.dimensions_fit h.in_dimensions;
         in_cost = front_holds (to_bits binary64) (expected_bits s (held_at held a w).cost a.columns) nan b.cost 128 _ fit.cost_fit h.in_cost;
         in_index = front_holds whole (expected_bits s (held_at held a w).index w) 0 b.index 160 _ fit.index_fit h.in_index;
       }

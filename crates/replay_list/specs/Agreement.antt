@@ -10,7 +10,7 @@ use Rattle.copp3_c.specs.declared.AnswerRecord.{AnswerRecord}
 use Rattle.copp3_c.specs.Exported.{Exported, sized_as, assembled_as}
 use Rattle.replay_list.specs.declared.case.Replayed.{Replayed}
 use Rattle.replay_list.specs.declared.input.Places.{Places}
-use Rattle.replay_list.specs.File.{item_at, NumbersHold, FloatsHold, BytesHold, IndexHolds}
+use Rattle.replay_list.specs.File.{item_at, NumbersHold, FloatsHold, BytesHold}
 use Rattle.replay_list.specs.Format.{job_at, records_at, problem_at, places_at, sizing_at, assembly_at, index_written, held_at, case_end}
 
 -- what copp3_size and copp3_assemble answer
@@ -23,8 +23,8 @@ assembled job records = assembled_as job.count records.items
 -- the buffers that are lent, of the list's lengths, and what they hold before the call
 unfoldable pub lent_buffers : List ℕ → ℕ → Buffers
 lent_buffers s at =
-    buffers (replicate (item_at s at 0) 2779096485) (replicate (item_at s at 1) 2779096485) (replicate (item_at s at 2) (of_bits binary64 13876516240719085568))
-    (replicate (item_at s at 3) (of_bits binary64 13876516240719085568)) (replicate (item_at s at 4) 165) (replicate (item_at s at 5) 2779096485)
+    buffers (replicate (item_at s at 0) 13876516240719085568) (replicate (item_at s at 1) 13876516240719085568) (replicate (item_at s at 2) (of_bits binary64 13876516240719085568))
+    (replicate (item_at s at 3) (of_bits binary64 13876516240719085568)) (replicate (item_at s at 4) 165) (replicate (item_at s at 5) 13876516240719085568)
     (replicate (item_at s at 6) (of_bits binary64 13876516240719085568)) (replicate (item_at s at 7) 13876516240719085568)
 
 -- The first m k places of buffer k hold what the list says from `at` on, for the counts of an answer and w places of the index.
@@ -36,7 +36,7 @@ pub record BuffersHold (s : List ℕ) (at : ℕ) (a : AnswerRecord) (w : ℕ) (m
   pub in_kinds : BytesHold s (held_at at a w).kinds a.cones (m 4) b.kinds
   pub in_dimensions : NumbersHold s (held_at at a w).dimensions a.cones (m 5) b.dimensions
   pub in_cost : FloatsHold s (held_at at a w).cost a.columns (m 6) b.cost
-  pub in_index : IndexHolds s (held_at at a w).index w (m 7) b.index
+  pub in_index : NumbersHold s (held_at at a w).index w (m 7) b.index
 
 -- the places of the arrays here, of which the first are lent
 abbrev pub places_here : ℕ → ℕ

@@ -33,9 +33,7 @@ expected read width before s at n i = cond (ltb i n) (read s (place_after at i w
 abbrev pub byte_at : List ℕ → ℕ → ℕ
 byte_at s at = get_or s at 0
 
-abbrev pub expected_number : List ℕ → ℕ → ℕ → ℕ → ℕ
-expected_number = expected short_at 4 2779096485
-
+-- a whole number of eight bytes, or a float's bits
 abbrev pub expected_bits : List ℕ → ℕ → ℕ → ℕ → ℕ
 expected_bits = expected long_at 8 13876516240719085568
 
@@ -47,13 +45,10 @@ abbrev pub Holds : {A : Type 0} → (A → ℕ) → A → (ℕ → ℕ) → ℕ 
 Holds number d e m l = (i : ℕ) → i < m → number (get_or l i d) ≡ e i
 
 abbrev pub NumbersHold : List ℕ → ℕ → ℕ → ℕ → List ℕ → Type 0
-NumbersHold s at n = Holds itself 0 (expected_number s at n)
+NumbersHold s at n = Holds itself 0 (expected_bits s at n)
 
 abbrev pub FloatsHold : List ℕ → ℕ → ℕ → ℕ → List Float → Type 0
 FloatsHold s at n = Holds (to_bits binary64) nan (expected_bits s at n)
 
 abbrev pub BytesHold : List ℕ → ℕ → ℕ → ℕ → List ℕ → Type 0
 BytesHold s at n = Holds itself 0 (expected_byte s at n)
-
-abbrev pub IndexHolds : List ℕ → ℕ → ℕ → ℕ → List ℕ → Type 0
-IndexHolds s at n = Holds itself 0 (expected_bits s at n)

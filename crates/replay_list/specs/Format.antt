@@ -158,16 +158,16 @@ assembly_at s at =
 unfoldable pub index_written : ℕ → AnswerRecord → ℕ
 index_written count a = cond (eqb a.number 0) (place_after 16 count 8) 0
 
--- "what the buffers hold below the counts: rows and columns (4 bytes each), values and right side (floats), kinds (1 byte each), dimensions (4 bytes each), cost (floats)":
+-- "what the buffers hold below the counts: rows and columns (8 bytes each), values and right side (floats), kinds (1 byte each), dimensions (8 bytes each), cost (floats)":
 -- where these begin after the rows, and where the index, of w written places, ends
 unfoldable pub held_at : ℕ → AnswerRecord → ℕ → Held
 held_at at a w =
-    let columns = place_after at a.entries 4 in
-    let values = place_after columns a.entries 4 in
+    let columns = place_after at a.entries 8 in
+    let values = place_after columns a.entries 8 in
     let right = place_after values a.entries 8 in
     let kinds = place_after right a.rows 8 in
     let dimensions = place_after kinds a.cones 1 in
-    let cost = place_after dimensions a.cones 4 in
+    let cost = place_after dimensions a.cones 8 in
     let index = place_after cost a.columns 8 in
     record { columns = columns; values = values; right = right; kinds = kinds; dimensions = dimensions; cost = cost; index = index; end = place_after index w 8 }
 

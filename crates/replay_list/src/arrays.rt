@@ -10,12 +10,12 @@ use copp3_c::AnswerRecord;
 
 #[derive(Drop)]
 pub struct Arrays {
-    pub rows: [u32; 128],
-    pub columns: [u32; 128],
+    pub rows: [usize; 128],
+    pub columns: [usize; 128],
     pub values: [f64; 128],
     pub right: [f64; 128],
     pub kinds: [u8; 128],
-    pub dimensions: [u32; 128],
+    pub dimensions: [usize; 128],
     pub cost: [f64; 128],
     pub index: [usize; 160],
 }
@@ -37,12 +37,12 @@ pub struct Held {
 pub fn held_at(at: usize, counts: AnswerRecord, written: usize) -> Held
     ensures { result ≡ held_at at counts written }
 {
-    let columns = past(at, counts.entries, 4);
-    let values = past(columns, counts.entries, 4);
+    let columns = past(at, counts.entries, 8);
+    let values = past(columns, counts.entries, 8);
     let right = past(values, counts.entries, 8);
     let kinds = past(right, counts.rows, 8);
     let dimensions = past(kinds, counts.cones, 1);
-    let cost = past(dimensions, counts.cones, 4);
+    let cost = past(dimensions, counts.cones, 8);
     let index = past(cost, counts.columns, 8);
     let end = past(index, written, 8);
     Held {

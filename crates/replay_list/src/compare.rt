@@ -4,7 +4,7 @@ ghost use Rattle.std.specs.Prelude.{◌≡◌, ℕ, true, List, length};
 ghost use Rattle.std.specs.Float.{binary64, nan};
 ghost use Rattle.std.specs.Float.Ieee.{of_bits, to_bits};
 ghost use Rattle.model.specs.Verdicts.{itself};
-ghost use Rattle.replay_list.specs.File.{byte_at, short_at, long_at, expected, Holds};
+ghost use Rattle.replay_list.specs.File.{byte_at, long_at, expected, Holds};
 
 use crate::file::Place;
 
@@ -48,28 +48,6 @@ impl Element for u8 {
 
     fn is_at(self, place: Place<'_>) -> bool {
         self == place.byte()
-    }
-
-    fn is_before(self) -> bool {
-        self == Self::BEFORE
-    }
-}
-
-impl Element for u32 {
-    ghost number = { itself };
-
-    ghost read = { short_at };
-
-    ghost WIDTH = { 4 };
-
-    ghost BEFORE = { 2779096485 };
-
-    const WIDTH: usize = 4;
-
-    const BEFORE: u32 = 2779096485;
-
-    fn is_at(self, place: Place<'_>) -> bool {
-        self == place.short()
     }
 
     fn is_before(self) -> bool {

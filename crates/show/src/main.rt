@@ -15,12 +15,12 @@ fn page_at(i: usize, out: &mut [u8]) -> usize
     ensures in_bounds { result ≤ length out.new }
     ensures prefix_len { result ≡ length (take result out.new) }
 {
-    let mut rows = [0u32; 160];
-    let mut columns = [0u32; 160];
+    let mut rows = [0usize; 160];
+    let mut columns = [0usize; 160];
     let mut values = [0.0; 160];
     let mut right = [0.0; 96];
     let mut kinds = [0u8; 32];
-    let mut dimensions = [0u32; 32];
+    let mut dimensions = [0usize; 32];
     let mut cost = [0.0; 32];
     let mut index = [0usize; 64];
     let mut buffers = Buffers {

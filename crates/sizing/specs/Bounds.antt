@@ -3,7 +3,7 @@ use Rattle.std.specs.Prelude.{ℕ, ◌+◌, ◌*◌, ◌^◌, ◌≤◌}
 use Rattle.model.specs.Refusals.{most_stations, most_joints, most_objectives}
 use Rattle.model.specs.declared.FourCounts.{FourCounts}
 
--- the acceleration rows of 4,097 stations, whose counts are of 32 bits
+-- the acceleration rows of all stations, whose counts are of 32 bits
 abbrev pub acc_most : ℕ
 acc_most = most_stations * 2 ^ 32
 
@@ -11,28 +11,28 @@ acc_most = most_stations * 2 ^ 32
 abbrev pub jerk_most : ℕ
 jerk_most = 2 * acc_most + 2 * 2 ^ 32
 
--- round numbers above the standard counts, the root stage's, one objective's and those of 16
+-- of the standard counts the most are the entries, of an objective's those of TotalVariationTorque; and those of the root stage, and of all objectives
 abbrev pub standard_most : ℕ
-standard_most = 200000000000000
+standard_most = 12 * most_stations + 2 * acc_most + 3 * jerk_most
 
 abbrev pub root_most : ℕ
-root_most = 20000
+root_most = 4 * most_stations
 
 abbrev pub objective_most : ℕ
-objective_most = 2000000
+objective_most = 10 * most_joints * (most_stations + 1)
 
 abbrev pub objectives_most : ℕ
 objectives_most = most_objectives * objective_most
 
--- what 4,097 stations, 32 joints and counts of 32 bits leave of d, n, m, p, L, u, A' and J'
+-- what the limits of stations and joints and counts of 32 bits leave of d, n, m, p, L, u, A' and J'
 abbrev pub Bounded : ℕ → ℕ → ℕ → ℕ → ℕ → ℕ → ℕ → ℕ → Type 0
 Bounded d n m ends l uppers acc jerk =
     (d ≤ most_joints)
-    × (n ≤ 4096)
-    × (m ≤ 4096)
+    × (n + 1 ≤ most_stations)
+    × (m + 1 ≤ most_stations)
     × (ends ≤ 2)
-    × (l ≤ 4096)
-    × (uppers ≤ 4099)
+    × (l + 1 ≤ most_stations)
+    × (uppers ≤ most_stations + 2)
     × (acc ≤ acc_most)
     × (jerk ≤ jerk_most)
 

@@ -3,7 +3,7 @@
 
 #![tactic(auto)]
 
-ghost use Rattle.std.specs.Prelude.{◌*◌, ◌+◌, ◌^◌, ◌≤◌, length, cond};
+ghost use Rattle.std.specs.Prelude.{◌*◌, ◌+◌, ◌^◌, ◌<◌, length, cond};
 ghost use Rattle.model.specs.Problem.{n, some, uses_root};
 ghost use Rattle.model.specs.Program.{nothing};
 ghost use Rattle.model.specs.Standard.{root_stage};
@@ -41,7 +41,7 @@ pub fn root_stage(t: &mut Tally, out: &mut Buffers, path: Path, objectives: &[Ob
 
 // Linear: the cost of the a and b columns, before all blocks.
 pub fn linear(t: &mut Tally, out: &mut Buffers, costs: &LinearCosts)
-    requires { t.old.columns.at + 2 * length costs.now.input.path.grid.now ≤ 2 ^ 32 }
+    requires { t.old.columns.at + 2 * length costs.now.input.path.grid.now < 2 ^ 64 }
     ensures { FillsCost t.old out.old t.new out.new (cost_in costs.now.input costs.now.objectives.now) 0 (2 * (n (path_of costs.now.input.path) + 1)) }
 {
     *t = linear::ab_costs(*t, out, costs);

@@ -23,7 +23,7 @@ use torque::{ScaledTorque, ThermalObjective, TorqueEnd, TorqueStation};
 // The first two rows of a cone, on its own column and a xi.
 // The bound on the own column stands in each of the three contracts that take it, and in no struct, since the column differs from call to call.
 fn first_rows(t: Tally, out: &mut Buffers, own: Column, xi: Column) -> Tally
-    requires { Room t 2 × (own.at < 2 ^ 32) × (xi.at < 2 ^ 32) }
+    requires { Room t 2 }
     ensures { Wrote t out.old result out.new (first_band own.at xi.at ∷ []) 2 }
 {
     let signs = [-1.0, 1.0];
@@ -62,7 +62,7 @@ fn cone<F: Fn(usize) -> f64>(
     j: usize,
     side_at: F,
 ) -> Tally
-    requires room { RoomAll t thermal_cone_room × (own.at < 2 ^ 32) × (j < length station.torque.path.grid.now) }
+    requires room { RoomAll t thermal_cone_room × (j < length station.torque.path.grid.now) }
     requires callable { (i : ℕ) → i < station.torque.d → F.pre side_at i }
     requires told { (g : ℕ → Float) × ((i : ℕ) (x : Float) → i < station.torque.d → F.post side_at i x → x ≡ g i) }
     ensures { (g : ℕ → Float) → ((i : ℕ) (x : Float) → i < station.entry.torque.d → F.post side_at i x → x ≡ g i) → Closed t out.old result out.new (cone_with station.entry.torque own.at j station.entry.k g ∷ []) thermal_cone_room }
@@ -76,7 +76,7 @@ fn cone<F: Fn(usize) -> f64>(
 
 // The cone of an end, if its count is positive, on xi number j.
 fn end_part(t: Tally, out: &mut Buffers, end: TorqueEnd, own: Column, j: usize) -> Tally
-    requires { RoomAll t thermal_cone_room × (own.at < 2 ^ 32) × (j < length end.torque.path.grid.now) }
+    requires { RoomAll t thermal_cone_room × (j < length end.torque.path.grid.now) }
     ensures { Closed t out.old result out.new (given (ltb 0 end.entry.count) (end_cone end.entry.torque own.at j end.entry.moving end.entry.resting ∷ [])) thermal_cone_room }
 {
     if end.count == 0 {
@@ -129,7 +129,7 @@ fn cones(t: Tally, out: &mut Buffers, torque: ScaledTorque) -> Tally
 // All costs: the weight itself at a positive end, times that of its resting station, and four times the weight at the other columns.
 #[tactic(auto, unfolding(model::specs::Problem::L))]
 fn costs(t: Tally, out: &mut Buffers, objective: ThermalObjective) -> Tally
-    requires { t.columns.at + length objective.torque.path.grid.now + 2 ≤ 2 ^ 32 }
+    requires { t.columns.at + length objective.torque.path.grid.now + 2 < 2 ^ 64 }
     ensures { Costs t out.old result out.new (thermal_costs (path_of objective.entry.torque.path) objective.entry.thermal.now objective.entry.weight) × (result.columns.at ≡ t.columns.at + (Problem.ends (path_of objective.entry.torque.path) + L (path_of objective.entry.torque.path))) }
 {
     let path = objective.torque.path;

@@ -19,7 +19,7 @@ use model::{Buffers, Column, ConeKind, Tally, Term};
 
 // The rows of a Time cone.
 fn time_rows(t: Tally, out: &mut Buffers, path: Path, c: Column, j: usize) -> Tally
-    requires { Room t 3 × (j < length path.grid.now) × (c.at + j < 2 ^ 32) }
+    requires { Room t 3 × (j < length path.grid.now) × (c.at + j < 2 ^ 64) }
     ensures { Wrote t out.old result out.new (time_bands (path_of path.entry) c.at j) 3 }
 {
     let xi = Term {
@@ -34,7 +34,7 @@ fn time_rows(t: Tally, out: &mut Buffers, path: Path, c: Column, j: usize) -> Ta
 
 // A Time cone.
 fn time_cone(t: Tally, out: &mut Buffers, path: Path, c: Column, j: usize) -> Tally
-    requires { RoomAll t 3 × (j < length path.grid.now) × (c.at + j < 2 ^ 32) }
+    requires { RoomAll t 3 × (j < length path.grid.now) × (c.at + j < 2 ^ 64) }
     ensures { Closed t out.old result out.new (time_cone (path_of path.entry) c.at j ∷ []) 3 }
 {
     let u = time_rows(t, out, path, c, j);
@@ -44,7 +44,7 @@ fn time_cone(t: Tally, out: &mut Buffers, path: Path, c: Column, j: usize) -> Ta
 // All Time cones.
 #[tactic(auto, using(columns::proofs::Xi::xi_in), unfolding(model::specs::Problem::L))]
 fn time_cones(t: Tally, out: &mut Buffers, path: Path, c: Column) -> Tally
-    requires { RoomAll t (3 * length path.grid.now) × (c.at + length path.grid.now ≤ 2 ^ 32) }
+    requires { RoomAll t (3 * length path.grid.now) × (c.at + length path.grid.now < 2 ^ 64) }
     ensures { Closed t out.old result out.new (list (time_cone (path_of path.entry) c.at) 0 (L (path_of path.entry))) (3 * length path.entry.grid.now) }
 {
     let count = columns::length_xi(path);
@@ -81,7 +81,7 @@ pub fn get_weight_a_topp3(path: Path, k: usize) -> f64
 // The cost of Time's columns.
 #[tactic(auto, using(columns::proofs::Xi::xi_in), unfolding(model::specs::Problem::L))]
 fn time_costs(t: Tally, out: &mut Buffers, path: Path, weight: f64) -> Tally
-    requires { t.columns.at + length path.grid.now ≤ 2 ^ 32 }
+    requires { t.columns.at + length path.grid.now < 2 ^ 64 }
     ensures { FillsCost t out.old result out.new (λ j. weight ⊗ at (time_weights (path_of path.entry)) (skip (path_of path.entry) + j)) 0 (L (path_of path.entry)) }
 {
     let count = columns::length_xi(path);

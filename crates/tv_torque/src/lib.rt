@@ -2,7 +2,7 @@
 
 #![tactic(auto)]
 
-ghost use Rattle.std.specs.Prelude.{◌+◌, ◌*◌, ◌^◌, ◌<◌, ◌≤◌, ltb, length};
+ghost use Rattle.std.specs.Prelude.{◌+◌, ◌*◌, ◌^◌, ◌<◌, ltb, length};
 ghost use Rattle.model.specs.Refusals.{most_joints};
 ghost use Rattle.model.specs.Lists.{over, given};
 ghost use Rattle.model.specs.Problem;
@@ -23,7 +23,7 @@ use torque::{ScaledTorque, TorqueEnd, TorqueStation, TorqueStep};
 // The two rows of joint i at an end.
 // The bound on the own columns stands in each of the four contracts that take the first of them, and in no struct, since that column differs from call to call.
 fn end_rows(t: Tally, out: &mut Buffers, end: TorqueEnd, col: Column, i: usize) -> Tally
-    requires { Room t 2 × (i < end.torque.d) × (col.at + most_joints ≤ 2 ^ 32) }
+    requires { Room t 2 × (i < end.torque.d) × (col.at + most_joints < 2 ^ 64) }
     ensures { Wrote t out.old result out.new (ends_of end.entry.torque col.at end.entry.moving end.entry.resting i) 2 }
 {
     let moving = end.moving_station();
@@ -46,7 +46,7 @@ fn end_rows(t: Tally, out: &mut Buffers, end: TorqueEnd, col: Column, i: usize) 
 
 // The rows of all joints at an end, if its count is positive.
 fn end_part(t: Tally, out: &mut Buffers, end: TorqueEnd, col: Column) -> Tally
-    requires { Room t torque_step_room × (col.at + most_joints ≤ 2 ^ 32) }
+    requires { Room t torque_step_room × (col.at + most_joints < 2 ^ 64) }
     ensures { Wrote t out.old result out.new (given (ltb 0 end.entry.count) (over (ends_of end.entry.torque col.at end.entry.moving end.entry.resting) 0 end.entry.torque.d)) torque_step_room }
 {
     if end.count == 0 {
@@ -62,7 +62,7 @@ fn end_part(t: Tally, out: &mut Buffers, end: TorqueEnd, col: Column) -> Tally
 
 // The two rows of joint i for a step.
 fn step_rows(t: Tally, out: &mut Buffers, step: TorqueStep, col: Column, i: usize) -> Tally
-    requires { Room t 2 × (i < step.torque.d) × (col.at + most_joints ≤ 2 ^ 32) }
+    requires { Room t 2 × (i < step.torque.d) × (col.at + most_joints < 2 ^ 64) }
     ensures { Wrote t out.old result out.new (steps_of step.entry.torque col.at step.entry.k i) 2 }
 {
     let torque = step.torque;
@@ -95,7 +95,7 @@ fn step_rows(t: Tally, out: &mut Buffers, step: TorqueStep, col: Column, i: usiz
 
 // The rows of all joints for a step.
 fn step_joints(t: Tally, out: &mut Buffers, step: TorqueStep, col: Column) -> Tally
-    requires { Room t torque_step_room × (col.at + most_joints ≤ 2 ^ 32) }
+    requires { Room t torque_step_room × (col.at + most_joints < 2 ^ 64) }
     ensures { Wrote t out.old result out.new (over (steps_of step.entry.torque col.at step.entry.k) 0 step.entry.torque.d) torque_step_room }
 {
     let mut u = t;

@@ -1,10 +1,11 @@
 //! Instructions of a job, as callgrind counts them over this program.
 
 use crate::lines::{GROWING, LIBRARY, PUBLISHED};
+use crate::measuring::SMALLER;
 use std::env;
 use std::process::Command;
 
-/// How this program is told to do jobs of one line only: `work LINE JOBS`.
+/// How this program is told to do jobs of one line only: `work N LINE JOBS`.
 pub const MODE: &str = "work";
 
 /// Line and instructions of a job, for the lines that are compared.
@@ -24,7 +25,8 @@ fn collected(line: usize, jobs: usize) -> Result<u64, String> {
     let output = Command::new("valgrind")
         .args(["--tool=callgrind", "--callgrind-out-file=/dev/null"])
         .arg(program)
-        .args([MODE, &(line + 1).to_string(), &jobs.to_string()])
+        .args([MODE, &SMALLER.to_string()])
+        .args([(line + 1).to_string(), jobs.to_string()])
         .output()
         .map_err(|fault| format!("valgrind can't be run ({fault})"))?;
     let text = String::from_utf8_lossy(&output.stderr);

@@ -1,22 +1,29 @@
-//! The problem that is measured.
+//! The problem that is measured, at a number of stations.
 
 use comparison::case::Case;
 use comparison::rng::Rng;
 use reference::sample::Sample;
 
-const N: usize = 4096;
+/// The two sizes that are measured: the job of request 13, and the longest path.
+pub const SMALLER: usize = 4096;
+pub const LARGER: usize = 65_536;
+
 const D: usize = 6;
 const ROWS: usize = 6;
 
-pub const WORDS: &str = "n = 4096, d = 6, six acceleration and six jerk rows per station, \
-    one objective of each kind:";
+pub fn words(n: usize) -> String {
+    format!(
+        "n = {n}, d = {D}, six acceleration and six jerk rows per station, one objective of each \
+         kind:"
+    )
+}
 
 /// Everyday numbers and one stationary interval at each end.
-pub fn case() -> Case {
+pub fn case(n: usize) -> Case {
     let mut rng = Rng::new(13);
     let mut numbers = |len: usize| -> Vec<f64> { (0..len).map(|_| 0.1 + rng.unit()).collect() };
-    let stations = N + 1;
-    let mut sample = Sample::plain(N, (1, 1), D);
+    let stations = n + 1;
+    let mut sample = Sample::plain(n, (1, 1), D);
     let mut s = 0.0;
     for (position, step) in sample.grid.iter_mut().zip(numbers(stations)) {
         s += step;

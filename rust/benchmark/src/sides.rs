@@ -44,15 +44,15 @@ impl<'a> Sides<'a> {
 }
 
 fn same_as_published(given: &Given, expected: &Assembled) -> bool {
-    let narrow = |wide: &[usize]| -> Vec<u32> { wide.iter().map(|&index| index as u32).collect() };
+    let longs = |numbers: &[usize]| -> Vec<u64> { numbers.iter().map(|&n| n as u64).collect() };
     let bits =
         |numbers: &[f64]| -> Vec<u64> { numbers.iter().map(|number| number.to_bits()).collect() };
     let (kinds, dims): (Vec<u8>, Vec<usize>) = given.cones.iter().copied().unzip();
-    narrow(&given.row) == expected.row
-        && narrow(&given.col) == expected.col
+    longs(&given.row) == expected.row
+        && longs(&given.col) == expected.col
         && bits(&given.val) == bits(&expected.val)
         && bits(&given.b) == bits(&expected.b)
         && kinds == expected.cones.kinds
-        && narrow(&dims) == expected.cones.dims
+        && longs(&dims) == expected.cones.dims
         && bits(&given.q) == bits(&expected.q_object)
 }

@@ -4,12 +4,12 @@ use crate::lines::{COPY, GROWING, LIBRARY, LINES, PUBLISHED};
 use crate::times::Column;
 
 /// A line of cells.
-fn row(cells: impl IntoIterator<Item = String>) -> String {
+pub fn row(cells: impl IntoIterator<Item = String>) -> String {
     let cells: Vec<String> = cells.into_iter().collect();
     format!("| {} |\n", cells.join(" | "))
 }
 
-fn rule(columns: usize) -> String {
+pub fn rule(columns: usize) -> String {
     format!("|{}\n", "---|".repeat(columns))
 }
 

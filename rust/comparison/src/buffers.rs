@@ -15,12 +15,12 @@ pub type Lengths = [usize; 8];
 /// The vectors; the lent part of each leaves out the margins.
 #[derive(Clone)]
 pub struct Output {
-    rows: Vec<u32>,
-    columns: Vec<u32>,
+    rows: Vec<u64>,
+    columns: Vec<u64>,
     values: Vec<f64>,
     right: Vec<f64>,
     kinds: Vec<u8>,
-    dimensions: Vec<u32>,
+    dimensions: Vec<u64>,
     cost: Vec<f64>,
     index: Vec<u64>,
 }
@@ -58,12 +58,12 @@ fn differ<T: Copy, B: PartialEq>(a: &[T], b: &[T], bits: impl Fn(T) -> B) -> Opt
 impl Output {
     pub fn random(rng: &mut Rng, lengths: &Lengths) -> Self {
         Self {
-            rows: random(rng, lengths[0], |bits| bits as u32),
-            columns: random(rng, lengths[1], |bits| bits as u32),
+            rows: random(rng, lengths[0], |bits| bits),
+            columns: random(rng, lengths[1], |bits| bits),
             values: random(rng, lengths[2], f64::from_bits),
             right: random(rng, lengths[3], f64::from_bits),
             kinds: random(rng, lengths[4], |bits| bits as u8),
-            dimensions: random(rng, lengths[5], |bits| bits as u32),
+            dimensions: random(rng, lengths[5], |bits| bits),
             cost: random(rng, lengths[6], f64::from_bits),
             index: random(rng, lengths[7], |bits| bits),
         }

@@ -2,6 +2,8 @@
 
 use crate::case::Case;
 use crate::rng::Rng;
+use reference::refusals::before_buffers;
+use reference::sample::Sample;
 use reference::{Objective, Part};
 
 /// The refusals that a fault can be aimed at; 19 and 28 are a matter of buffers.
@@ -9,10 +11,19 @@ pub const AIMS: [u64; 20] = [
     1, 2, 3, 4, 5, 6, 7, 8, 9, 10, 11, 12, 13, 14, 15, 16, 17, 18, 20, 40,
 ];
 
+/// Puts one fault or several into the problem.
+pub fn several(rng: &mut Rng, case: &mut Case) {
+    for _ in 0..rng.pick(&[1, 1, 1, 2, 3, 5]) {
+        let aim = rng.pick(&AIMS);
+        damage(rng, case, aim);
+    }
+}
+
 /// Puts a fault into the problem; where there is no place for it, nothing happens.
 pub fn damage(rng: &mut Rng, case: &mut Case, aim: u64) {
     match aim {
         1..=3 => boundary(rng, case, aim),
+        5 => longer(rng, &mut case.sample),
         4..=7 => grid(rng, case, aim),
         8..=10 => set_up(rng, case, aim),
         11..=13 => objective(rng, case, aim),
@@ -54,13 +65,6 @@ fn grid(rng: &mut Rng, case: &mut Case, aim: u64) {
     let grid = &mut case.sample.grid;
     match aim {
         4 => grid.truncate(rng.below(3)),
-        5 => {
-            let len = rng.pick(&[4098, 4098, 4099, 5000]);
-            let last = grid.last().copied().unwrap_or(0.0);
-            while grid.len() < len {
-                grid.push(last + grid.len() as f64);
-            }
-        }
         _ if grid.len() < 2 => {}
         6 => {
             let k = rng.below(grid.len());
@@ -73,6 +77,57 @@ fn grid(rng: &mut Rng, case: &mut Case, aim: u64) {
                 1 => grid[k] = grid[k - 1].next_down(),
                 2 => grid.swap(k - 1, k),
                 _ => (grid[k - 1], grid[k]) = (0.0, -0.0),
+            }
+        }
+    }
+}
+
+/// Too many stations, but in one case of eight only, for they take time. Still more rarely as many
+/// as once were the most, or one more, which are accepted.
+fn longer(rng: &mut Rng, sample: &mut Sample) {
+    match rng.below(160) {
+        0 => lengthen(sample, rng.pick(&[4_097, 4_098])),
+        1..=20 => {
+            let len = rng.pick(&[65_538, 65_538, 65_539, 70_000]);
+            let last = sample.grid.last().copied().unwrap_or(0.0);
+            let more = sample.grid.len()..len;
+            sample.grid.extend(more.map(|k| last + k as f64));
+        }
+        _ => {}
+    }
+}
+
+/// So many stations, with tables and lists to match, in a problem that is in order and that does
+/// not write too much then.
+fn lengthen(sample: &mut Sample, stations: usize) {
+    if before_buffers(&sample.problem()).is_err() || sample.d * sample.count > 8 {
+        return;
+    }
+    let grid = &mut sample.grid;
+    while grid.len() < stations {
+        let last = grid[grid.len() - 1];
+        grid.push((last + 1.0).max(last.next_up()));
+    }
+    let stations = grid.len();
+    sample
+        .rows
+        .iter_mut()
+        .for_each(|rows| rows.resize(stations, 0));
+    for table in [2, 10] {
+        sample.table_mut(table).resize(stations, 1.0);
+    }
+    for table in 11..=13 {
+        let len = sample.d * stations;
+        sample.table_mut(table).resize(len, 1.0);
+    }
+    for objective in &mut sample.objectives {
+        if let Objective::Linear(_, alpha, beta) = objective {
+            for list in [alpha, beta] {
+                let numbers = list.start..list.start + list.len;
+                list.start = sample.pool.len();
+                sample.pool.extend_from_within(numbers);
+                list.len = stations;
+                sample.pool.resize(list.start + stations, 1.0);
             }
         }
     }

@@ -3,11 +3,12 @@
 pub mod buffers;
 pub mod case;
 pub mod damage;
+pub mod large;
 pub mod one_number;
 pub mod owners;
 pub mod tally;
 
-pub use problems::{generate, rng};
+pub use problems::{generate, long, rng};
 
 use buffers::{Lengths, Output, needed};
 use case::Case;
@@ -30,10 +31,7 @@ pub fn problem(rng: &mut Rng) -> Case {
     if rng.chance(45) {
         return case;
     }
-    for _ in 0..rng.pick(&[1, 1, 1, 2, 3, 5]) {
-        let aim = rng.pick(&damage::AIMS);
-        damage::damage(rng, &mut case, aim);
-    }
+    damage::several(rng, &mut case);
     case
 }
 
@@ -53,12 +51,7 @@ pub fn check(case: &Case, rng: &mut Rng, tally: &mut Tally) -> Check {
     let judged = case.judge();
     let records = case.records(rng);
     tally.problems += 1;
-    let sized = raw::size(case.job(), records, &case.tables());
-    let expected = judged.as_ref().map(Assembled::counts).map_err(|r| *r);
-    equal("sizing", sized, expected)?;
-    if let Ok(assembled) = &judged {
-        check_facts(&case.sample.problem(), assembled)?;
-    }
+    sizing(case, &judged, &records)?;
     let lengths = choose_lengths(rng, &judged);
     assembly(case, &judged, &records, &lengths, rng, tally)?;
     if let Ok(assembled) = &judged
@@ -70,6 +63,17 @@ pub fn check(case: &Case, rng: &mut Rng, tally: &mut Tally) -> Check {
         ordinary(case, &judged)?;
     }
     owners::of_any_index(judged.as_ref().ok(), rng, tally)
+}
+
+/// Sizing's answer, and demand 3's facts about what is assembled.
+fn sizing(case: &Case, judged: &Result<Assembled, Refusal>, records: &Records) -> Check {
+    let sized = raw::size(case.job(), *records, &case.tables());
+    let expected = judged.as_ref().map(Assembled::counts).map_err(|r| *r);
+    equal("sizing", sized, expected)?;
+    if let Ok(assembled) = judged {
+        check_facts(&case.sample.problem(), assembled)?;
+    }
+    Ok(())
 }
 
 /// One assembly with buffers of these lengths: answer, numbers, and all bytes.

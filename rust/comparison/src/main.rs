@@ -2,7 +2,10 @@
 //!
 //! `compare one-number [problems] [seed] [first] [written|unread]` takes problems with
 //! one fault each, aimed at refusal 20: as many of each group, or of the one named.
+//!
+//! `compare large [problems] [seed] [first]` takes problems of 4,097 to 65,538 stations.
 
+use comparison::large::{Large, MOST_ENTRIES};
 use comparison::one_number::Group;
 use comparison::run;
 use comparison::tally::Tally;
@@ -19,8 +22,10 @@ fn argument(place: usize, default: u64) -> Result<u64, String> {
 }
 
 fn compare() -> Result<(), String> {
-    if env::args().nth(1).as_deref() == Some("one-number") {
-        return one_number();
+    match env::args().nth(1).as_deref() {
+        Some("one-number") => return one_number(),
+        Some("large") => return large(),
+        _ => {}
     }
     let mut tally = Tally::default();
     let (count, seed, first) = (argument(1, 200_000)?, argument(2, 1)?, argument(3, 0)?);
@@ -41,6 +46,14 @@ fn one_number() -> Result<(), String> {
         group.run(seed, first, count)?;
         println!("{}", group.report());
     }
+    Ok(())
+}
+
+fn large() -> Result<(), String> {
+    let (count, seed, first) = (argument(2, 300)?, argument(3, 1)?, argument(4, 0)?);
+    let mut met = Large::default();
+    met.run(seed, first, count, MOST_ENTRIES)?;
+    println!("{met}");
     Ok(())
 }
 

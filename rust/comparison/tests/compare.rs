@@ -4,6 +4,7 @@
 use comparison::buffers::needed;
 use comparison::case::Case;
 use comparison::generate::shaped;
+use comparison::large::Large;
 use comparison::one_number::Group;
 use comparison::rng::{Flavour, Rng};
 use comparison::tally::Tally;
@@ -123,7 +124,9 @@ fn limits() {
     assert_eq!(refusal_of(time(1, 1), &mut rng), 4);
     assert_eq!(refusal_of(time(2, 1), &mut rng), 0);
     assert_eq!(refusal_of(time(4096, 1), &mut rng), 0);
-    assert_eq!(refusal_of(time(4097, 1), &mut rng), 5);
+    assert_eq!(refusal_of(time(4097, 1), &mut rng), 0);
+    assert_eq!(refusal_of(time(65_536, 1), &mut rng), 0);
+    assert_eq!(refusal_of(time(65_537, 1), &mut rng), 5);
     assert_eq!(refusal_of(time(2, 0), &mut rng), 8);
     assert_eq!(refusal_of(time(2, 32), &mut rng), 0);
     assert_eq!(refusal_of(time(2, 33), &mut rng), 8);
@@ -151,10 +154,23 @@ fn row_limits() {
 fn longest_grids() {
     let mut rng = Rng::new(5);
     let mut tally = Tally::default();
-    for ends in [(0, 0), (1, 1), (3, 2), (4095, 0), (0, 4095), (2047, 2048)] {
-        let sample = shaped(&mut rng, 4096, ends, 2, 3, Flavour::Tame);
+    let once = [(0, 0), (1, 1), (3, 2), (4095, 0), (0, 4095), (2047, 2048)];
+    // With few moving intervals, hence little to write; `large_problems` has the others.
+    let now = [(65_535, 0), (0, 65_533), (32_767, 32_768)];
+    let once = once.map(|ends| (4096, ends));
+    for (n, ends) in once.into_iter().chain(now.map(|ends| (65_536, ends))) {
+        let sample = shaped(&mut rng, n, ends, 2, 3, Flavour::Tame);
         thoroughly(&Case::new(sample), &mut rng, &mut tally);
     }
+}
+
+/// Random problems on long paths, the edges of the old limit and of today's among them.
+#[test]
+fn large_problems() {
+    let mut met = Large::default();
+    met.run(20260103, 0, 10, 3_000_000).unwrap();
+    println!("{met}");
+    met.covers(1).unwrap();
 }
 
 /// The wrapper's index: owners of case A, one place fewer, and two more than needed.

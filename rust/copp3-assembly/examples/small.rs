@@ -39,7 +39,7 @@ fn case_a() -> Problem<'static> {
 }
 
 /// Who has written a row, in words.
-fn owner(out: &Assembly, row: u32) -> String {
+fn owner(out: &Assembly, row: u64) -> String {
     match out.owner_of_row(row as usize) {
         Ok(owner) => owner.to_string(),
         Err(refusal) => refusal.to_string(),

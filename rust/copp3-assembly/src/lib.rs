@@ -244,13 +244,13 @@ impl ConeKind {
 #[derive(Clone, Debug, Default)]
 pub struct Assembly {
     /// Row, column and value of each entry of A.
-    pub rows: Vec<u32>,
-    pub columns: Vec<u32>,
+    pub rows: Vec<u64>,
+    pub columns: Vec<u64>,
     pub values: Vec<f64>,
     pub right: Vec<f64>,
     /// Kind and dimension of each cone.
     pub kinds: Vec<u8>,
-    pub dimensions: Vec<u32>,
+    pub dimensions: Vec<u64>,
     pub cost: Vec<f64>,
     /// Eight numbers for each owner: first entry, row, cone and column, then how many of each.
     pub index: Vec<u64>,
@@ -286,7 +286,7 @@ impl Assembly {
     }
 
     /// Kind and dimension of each cone, in row order.
-    pub fn cones(&self) -> impl Iterator<Item = (Option<ConeKind>, u32)> + '_ {
+    pub fn cones(&self) -> impl Iterator<Item = (Option<ConeKind>, u64)> + '_ {
         let kinds = self.kinds.iter().map(|&kind| ConeKind::new(kind));
         kinds.zip(self.dimensions.iter().copied())
     }

@@ -86,12 +86,12 @@ pub struct Tables<'a> {
 /// The output buffers: seven in the order of refusal 19's places, then the index.
 #[derive(Debug)]
 pub struct Buffers<'a> {
-    pub rows: &'a mut [u32],
-    pub columns: &'a mut [u32],
+    pub rows: &'a mut [u64],
+    pub columns: &'a mut [u64],
     pub values: &'a mut [f64],
     pub right: &'a mut [f64],
     pub kinds: &'a mut [u8],
-    pub dimensions: &'a mut [u32],
+    pub dimensions: &'a mut [u64],
     pub cost: &'a mut [f64],
     /// Needs eight places for each owner: [`index_places`].
     pub index: &'a mut [u64],
@@ -102,12 +102,12 @@ type Place<T> = (*mut T, usize);
 
 /// The buffers as the C interface takes them.
 struct Places {
-    rows: Place<u32>,
-    columns: Place<u32>,
+    rows: Place<u64>,
+    columns: Place<u64>,
     values: Place<f64>,
     right: Place<f64>,
     kinds: Place<u8>,
-    dimensions: Place<u32>,
+    dimensions: Place<u64>,
     cost: Place<f64>,
     index: Place<u64>,
 }
@@ -156,12 +156,12 @@ macro_rules! entry_points {
 
             fn copp3_assemble(
                 job: Job, objectives: Records, $($table: *const $kind, $len: usize,)*
-                rows: *mut u32, rows_len: usize,
-                columns: *mut u32, columns_len: usize,
+                rows: *mut u64, rows_len: usize,
+                columns: *mut u64, columns_len: usize,
                 values: *mut f64, values_len: usize,
                 right: *mut f64, right_len: usize,
                 kinds: *mut u8, kinds_len: usize,
-                dimensions: *mut u32, dimensions_len: usize,
+                dimensions: *mut u64, dimensions_len: usize,
                 cost: *mut f64, cost_len: usize,
                 index: *mut u64, index_len: usize,
             ) -> Answer;

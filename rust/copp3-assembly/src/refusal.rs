@@ -203,7 +203,7 @@ impl fmt::Display for Refusal {
                 )
             }
             Self::TooFewStations => f.write_str("grid: fewer than 3 stations"),
-            Self::TooManyStations => f.write_str("grid: more than 4097 stations"),
+            Self::TooManyStations => f.write_str("grid: more than 65537 stations"),
             Self::GridNotFinite { station } => write!(f, "grid: station {station} is not finite"),
             Self::GridNotRising { station } => {
                 write!(f, "grid: station {station} is not above the one before")

@@ -3,6 +3,7 @@
 //! changes nothing but the cost in its owner's columns.
 
 use problems::generate::{sample, shaped, stationary};
+use problems::long;
 use problems::rng::{Flavour, Rng};
 use reference::counts::check_facts;
 use reference::sample::Sample;
@@ -40,9 +41,9 @@ fn facts_of_demand_3() {
 fn facts_at_the_limits() {
     let mut rng = Rng::new(9);
     for (n, ends, d, count) in [
-        (4096, (0, 0), 1, 2),
-        (4096, (2047, 2048), 6, 4),
-        (4096, (4095, 0), 2, 3),
+        (65_536, (0, 0), 1, 2),
+        (65_536, (32_767, 32_768), 6, 4),
+        (65_536, (65_535, 0), 2, 3),
         (2, (0, 1), 32, 16),
         (40, (1, 1), 32, 16),
     ] {
@@ -50,6 +51,23 @@ fn facts_at_the_limits() {
         let problem = sample.problem();
         check_facts(&problem, &judge(&problem).unwrap()).unwrap();
     }
+}
+
+/// On long paths too, some with 256 rows at many stations; about as many entries as allowed.
+#[test]
+fn facts_on_long_paths() {
+    let (mut full, most) = (0, 2_000_000);
+    for index in 0..8 {
+        let mut rng = Rng::of_problem(11, index);
+        let stations = rng.between(4_097, 65_537);
+        let sample = long::sample(&mut rng, stations, most);
+        let problem = sample.problem();
+        let assembled = judge(&problem).unwrap();
+        check_facts(&problem, &assembled).unwrap();
+        assert!(assembled.counts().entries < 2 * most + 40 * stations);
+        full += usize::from(long::full_stations(&sample).iter().any(|&many| many > 100));
+    }
+    assert!(full > 1);
 }
 
 /// Gives one objective another weight; Linear is left out.

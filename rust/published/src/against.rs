@@ -26,20 +26,21 @@ fn bits(numbers: &[f64]) -> Vec<u64> {
     numbers.iter().map(bits).collect()
 }
 
-fn narrow(numbers: &[usize]) -> Vec<u32> {
-    numbers.iter().map(|&number| number as u32).collect()
+/// Row numbers, column numbers and dimensions as the reference keeps them.
+fn longs(numbers: &[usize]) -> Vec<u64> {
+    numbers.iter().map(|&number| number as u64).collect()
 }
 
 /// Stops at the first list that differs.
 pub fn assert_same(given: &Given, ours: &Assembled) {
     assert_eq!(given.rows, ours.b.len());
     assert_eq!(given.columns, ours.q_object.len());
-    assert_eq!(narrow(&given.row), ours.row);
-    assert_eq!(narrow(&given.col), ours.col);
+    assert_eq!(longs(&given.row), ours.row);
+    assert_eq!(longs(&given.col), ours.col);
     assert_eq!(bits(&given.val), bits(&ours.val));
     assert_eq!(bits(&given.b), bits(&ours.b));
     assert_eq!(bits(&given.q), bits(&ours.q_object));
     let (kinds, dims): (Vec<u8>, Vec<usize>) = given.cones.iter().copied().unzip();
     assert_eq!(kinds, ours.cones.kinds);
-    assert_eq!(narrow(&dims), ours.cones.dims);
+    assert_eq!(longs(&dims), ours.cones.dims);
 }

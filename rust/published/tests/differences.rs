@@ -70,9 +70,9 @@ fn sizing_the_estimate_of_columns_is_too_low() {
 
 #[test]
 fn refusal_5_any_length_is_assembled() {
-    let sample = time(4097, (0, 0));
+    let sample = time(65_537, (0, 0));
     assert_eq!(refusal(&sample), (5, 0));
-    assert_eq!(run(&sample).columns, 2 * 4098 + 2 * 4096);
+    assert_eq!(run(&sample).columns, 2 * 65_538 + 2 * 65_536);
 }
 
 #[test]

@@ -1,6 +1,7 @@
 //! The reference against the published files, on random problems of all shapes.
 
 use problems::generate;
+use problems::long;
 use problems::rng::Rng;
 use published::against::{assert_same, own_roots};
 use published::diag::CoppError;
@@ -47,6 +48,18 @@ fn random_problems() {
     }
     println!("{equal} equal, {infeasible} infeasible on both sides");
     assert!(equal > 90_000 && infeasible > 500);
+}
+
+/// Up to the most stations that are accepted.
+#[test]
+fn long_paths() {
+    for (index, stations) in [4_098, 20_000, 65_537, 65_537].into_iter().enumerate() {
+        let mut rng = Rng::of_problem(98, index as u64);
+        let mut sample = long::sample(&mut rng, stations, 2_000_000);
+        own_roots(&mut sample);
+        let problem = sample.problem();
+        assert_same(&published(&problem).unwrap(), &judge(&problem).unwrap());
+    }
 }
 
 /// Refusals 9, 11, 12 (length) and 13 are the published validator's own.

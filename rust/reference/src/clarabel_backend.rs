@@ -1,5 +1,5 @@
 //! The growing vectors that the assembly functions pass on, as in copp's
-//! `clarabel_backend.rs`, with document 01's number types.
+//! `clarabel_backend.rs`, with the documents' number types.
 
 use std::ops::Range;
 
@@ -13,11 +13,11 @@ pub enum SupportedConeT {
 
 impl SupportedConeT {
     /// Document 01's cone kind, and the dimension.
-    fn parts(self) -> (u8, u32) {
+    fn parts(self) -> (u8, u64) {
         match self {
-            Self::ZeroConeT(dim) => (0, dim as u32),
-            Self::NonnegativeConeT(dim) => (1, dim as u32),
-            Self::SecondOrderConeT(dim) => (2, dim as u32),
+            Self::ZeroConeT(dim) => (0, dim as u64),
+            Self::NonnegativeConeT(dim) => (1, dim as u64),
+            Self::SecondOrderConeT(dim) => (2, dim as u64),
         }
     }
 }
@@ -26,7 +26,7 @@ impl SupportedConeT {
 #[derive(Clone, Debug, Default)]
 pub struct Cones {
     pub kinds: Vec<u8>,
-    pub dims: Vec<u32>,
+    pub dims: Vec<u64>,
 }
 
 impl Cones {
@@ -58,9 +58,7 @@ impl Cones {
     }
 }
 
-/// `Vec<usize>` of the published Rust, kept in 32 bits.
-///
-/// The limits of document 01 keep every row and column number far below 2^32.
+/// `Vec<usize>` of the published Rust, kept in 64 bits on every machine.
 pub trait Indices {
     fn extend_range(&mut self, range: Range<usize>);
     fn extend_each<const N: usize>(&mut self, numbers: [usize; N]);
@@ -68,28 +66,28 @@ pub trait Indices {
     fn resize_with_index(&mut self, len: usize, number: usize);
 }
 
-impl Indices for Vec<u32> {
+impl Indices for Vec<u64> {
     fn extend_range(&mut self, range: Range<usize>) {
-        self.extend(range.start as u32..range.end as u32);
+        self.extend(range.start as u64..range.end as u64);
     }
 
     fn extend_each<const N: usize>(&mut self, numbers: [usize; N]) {
-        self.extend(numbers.map(|number| number as u32));
+        self.extend(numbers.map(|number| number as u64));
     }
 
     fn push_index(&mut self, number: usize) {
-        self.push(number as u32);
+        self.push(number as u64);
     }
 
     fn resize_with_index(&mut self, len: usize, number: usize) {
-        self.resize(len, number as u32);
+        self.resize(len, number as u64);
     }
 }
 
 /// (row, col, val, b, cones)
 pub type ConstraintsClarabel<'a> = (
-    &'a mut Vec<u32>, // row
-    &'a mut Vec<u32>, // col
+    &'a mut Vec<u64>, // row
+    &'a mut Vec<u64>, // col
     &'a mut Vec<f64>, // val
     &'a mut Vec<f64>, // b
     &'a mut Cones,    // cones
@@ -97,8 +95,8 @@ pub type ConstraintsClarabel<'a> = (
 
 /// (row, col, val, b, cones, q_object)
 pub type ObjConsClarabel<'a> = (
-    &'a mut Vec<u32>, // row
-    &'a mut Vec<u32>, // col
+    &'a mut Vec<u64>, // row
+    &'a mut Vec<u64>, // col
     &'a mut Vec<f64>, // val
     &'a mut Vec<f64>, // b
     &'a mut Cones,    // cones

@@ -274,7 +274,7 @@ pub fn clarabel_1order_constraint_topp3(
         })
         .collect();
     row.extend_range(b.len()..(b.len() + amax_constraint.len()));
-    col.extend(amax_constraint.iter().map(|(col_, _)| *col_ as u32));
+    col.extend(amax_constraint.iter().map(|(col_, _)| *col_ as u64));
     val.resize(val.len() + amax_constraint.len(), 1.0);
     b.extend(amax_constraint.iter().map(|(_, b_)| *b_));
 

@@ -29,8 +29,8 @@ pub enum Reserve {
 /// What the core holds just before `CscMatrix::new_from_triplets`.
 #[derive(Clone, Debug)]
 pub struct Assembled {
-    pub row: Vec<u32>,
-    pub col: Vec<u32>,
+    pub row: Vec<u64>,
+    pub col: Vec<u64>,
     pub val: Vec<f64>,
     pub b: Vec<f64>,
     pub cones: Cones,
@@ -65,8 +65,8 @@ pub fn copp3_socp_core(problem: &Problem, reserve: Reserve) -> Result<Assembled,
         }
         Reserve::Nothing => (0, 0, 0, 0),
     };
-    let mut row = Vec::<u32>::with_capacity(cap_val);
-    let mut col = Vec::<u32>::with_capacity(cap_val);
+    let mut row = Vec::<u64>::with_capacity(cap_val);
+    let mut col = Vec::<u64>::with_capacity(cap_val);
     let mut val = Vec::<f64>::with_capacity(cap_val);
     let mut b = Vec::<f64>::with_capacity(cap_b);
     let mut cones = Cones::with_capacity(cap_cone);

@@ -181,8 +181,8 @@ pub fn check_facts(problem: &Problem, assembled: &Assembled) -> Result<(), Strin
             counts.entries
         ));
     }
-    let dims: usize = assembled.cones.dims.iter().map(|&dim| dim as usize).sum();
-    if dims != counts.rows {
+    let dims: u64 = assembled.cones.dims.iter().sum();
+    if dims != counts.rows as u64 {
         return Err(format!("cones of {dims} rows, {} rows", counts.rows));
     }
     check_positions(assembled, counts)?;
@@ -214,33 +214,36 @@ fn check_owners(problem: &Problem, assembled: &Assembled) -> Result<(), String> 
 /// The entries of an owner lie in its rows, and its cones have just these rows.
 fn check_entries(assembled: &Assembled, noted: &[u64]) -> Result<(), String> {
     let range = |sort: usize| noted[sort] as usize..(noted[sort] + noted[sort + 4]) as usize;
-    let (entries, rows, cones) = (range(0), range(1), range(2));
-    let found = assembled.row[entries].iter();
-    if let Some(row) = found.clone().find(|&&row| !rows.contains(&(row as usize))) {
+    let (entries, rows, cones) = (range(0), noted[1]..noted[1] + noted[5], range(2));
+    let mut found = assembled.row[entries].iter();
+    if let Some(row) = found.find(|row| !rows.contains(row)) {
         return Err(format!("an entry at row {row}, its rows are {rows:?}"));
     }
-    let dims: u32 = assembled.cones.dims[cones].iter().sum();
-    if dims as usize != rows.len() {
+    let dims: u64 = assembled.cones.dims[cones].iter().sum();
+    if dims != rows.end - rows.start {
         return Err(format!("cones of {dims} rows, its rows are {rows:?}"));
     }
     Ok(())
 }
 
 /// Every entry names an existing row and column, and no position is named twice.
+///
+/// Positions are counted through row by row; there are far fewer than 2^64.
 fn check_positions(assembled: &Assembled, counts: Counts) -> Result<(), String> {
+    let (rows, columns) = (counts.rows as u64, counts.columns as u64);
     let mut positions = Vec::with_capacity(counts.entries);
     for (&row, &col) in assembled.row.iter().zip(&assembled.col) {
-        if row as usize >= counts.rows || col as usize >= counts.columns {
+        if row >= rows || col >= columns {
             return Err(format!("entry at row {row}, column {col} is outside"));
         }
-        positions.push(u64::from(row) << 32 | u64::from(col));
+        positions.push(row * columns + col);
     }
     positions.sort_unstable();
     match positions.windows(2).find(|pair| pair[0] == pair[1]) {
         Some(pair) => Err(format!(
             "row {}, column {} is named twice",
-            pair[0] >> 32,
-            pair[0] as u32
+            pair[0] / columns,
+            pair[0] % columns
         )),
         None => Ok(()),
     }

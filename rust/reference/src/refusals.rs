@@ -57,7 +57,7 @@ fn grid(grid: &[f64]) -> Check {
     if grid.len() < 3 {
         return refuse(4, 0);
     }
-    if grid.len() > 4097 {
+    if grid.len() > 65_537 {
         return refuse(5, 0);
     }
     first(6, grid.iter().map(|s| !s.is_finite()))?;

@@ -61,7 +61,7 @@ impl Case {
         }
         self.lengths(file);
         file.floats(&sample.grid);
-        sample.rows.iter().for_each(|table| file.indices(table));
+        sample.rows.iter().for_each(|table| file.row_counts(table));
         sample.tables.iter().for_each(|table| file.floats(table));
         file.floats(&sample.pool);
         for (i, objective) in sample.objectives[..self.records()].iter().enumerate() {

@@ -55,12 +55,12 @@ impl Expected {
         assert_eq!(lengths, [entries; 3]);
         assert_eq!((out.b.len(), out.q_object.len()), (rows, columns));
         assert_eq!([out.cones.kinds.len(), out.cones.dims.len()], [cones; 2]);
-        file.indices(&out.row);
-        file.indices(&out.col);
+        file.longs(&out.row);
+        file.longs(&out.col);
         file.floats(&out.val);
         file.floats(&out.b);
         out.cones.kinds.iter().for_each(|&kind| file.byte(kind));
-        file.indices(&out.cones.dims);
+        file.longs(&out.cones.dims);
         file.floats(&out.q_object);
         file.longs(&out.index);
     }

@@ -32,7 +32,7 @@ impl File {
             .for_each(|number| self.0.extend(number.to_le_bytes()));
     }
 
-    pub fn indices(&mut self, numbers: &[u32]) {
+    pub fn row_counts(&mut self, numbers: &[u32]) {
         numbers
             .iter()
             .for_each(|&number| self.short(number as usize));

@@ -23,8 +23,8 @@
 //! 6 x 4       sizing's answer: number, place, entries, rows, cones, columns
 //! 2 x 4       the assembly's answer: number, place
 //!             if that number is 0, what the buffers hold below the counts: rows
-//!             and columns (4 bytes each), values and right side (floats), kinds
-//!             (1 byte each), dimensions (4 bytes each), cost (floats); then
+//!             and columns (8 bytes each), values and right side (floats), kinds
+//!             (1 byte each), dimensions (8 bytes each), cost (floats); then
 //!             the index below 8 x (number of objectives + 2) (8 bytes each)
 //! ```
 

@@ -7,7 +7,7 @@ use reference::Assembled;
 
 /// What that program's buffers hold before a call: with it a count that is one too high is the
 /// only thing wrong.
-const NUMBER: u32 = 0xa5a5_a5a5;
+const NUMBER: u64 = 13_876_516_240_719_085_568;
 const FLOAT: f64 = -1234.5;
 const BYTE: u8 = 0xa5;
 
@@ -30,11 +30,12 @@ const COUNTS: [Wrong; 4] = [
 /// One more of each count, and of what is held by it.
 const LONGER: [Wrong; 4] = [more_entries, more_rows, more_cones, more_columns];
 
-/// The first and the last number of each buffer.
+/// The first and the last number of each buffer; of rows, columns and dimensions one is wrong in its
+/// upper 32 bits alone.
 const NUMBERS: [Wrong; 16] = [
     |e| *first(&mut held(e).row) ^= 1,
-    |e| *last(&mut held(e).row) ^= 1 << 31,
-    |e| *first(&mut held(e).col) ^= 1 << 8,
+    |e| *last(&mut held(e).row) ^= 1 << 63,
+    |e| *first(&mut held(e).col) ^= 1 << 32,
     |e| *last(&mut held(e).col) ^= 1,
     |e| flip(first(&mut held(e).val), 0),
     |e| flip(last(&mut held(e).val), 63),
@@ -43,7 +44,7 @@ const NUMBERS: [Wrong; 16] = [
     |e| *first(&mut held(e).cones.kinds) ^= 1,
     |e| *last(&mut held(e).cones.kinds) ^= 0x80,
     |e| *first(&mut held(e).cones.dims) ^= 1,
-    |e| *last(&mut held(e).cones.dims) ^= 1 << 16,
+    |e| *last(&mut held(e).cones.dims) ^= 1 << 40,
     |e| flip(first(&mut held(e).q_object), 63),
     |e| flip(last(&mut held(e).q_object), 0),
     |e| *first(&mut held(e).index) ^= 1,

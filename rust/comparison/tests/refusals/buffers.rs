@@ -24,7 +24,7 @@ fn short_buffers() -> Vec<Row> {
         [] short [] gives ACCEPTED;
         [] short [0, 1, 2, 3, 4, 5, 6] gives refused(19, 0);
         [slots_from(4, time(1.0)), count(16)] short [5] gives refused(19, 5);
-        [stations(4097)] short [3] gives refused(19, 3);
+        [stations(65_537)] short [3] gives refused(19, 3);
         // after 18 and 17, before 28 and 20
         [end(1.0, 2.0)] short [0] gives refused(18, 1);
         [amax(4, NAN)] short [6] gives refused(17, 6);

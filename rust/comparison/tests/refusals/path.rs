@@ -40,7 +40,7 @@ fn boundary_finite() -> Vec<Row> {
         [boundary(-1.0, -1.0, 1.0, MINUS_INFINITY)] gives refused(1, 3);
         [boundary(0.0, 1.0, -1.0, NAN)] gives refused(1, 3);
         [boundary(1.0, 1.0, 1.0, NAN), grid([])] gives refused(1, 3);
-        [boundary(1.0, 1.0, NAN, 1.0), stations(4098)] gives refused(1, 2);
+        [boundary(1.0, 1.0, NAN, 1.0), stations(65_538)] gives refused(1, 2);
     }
 }
 
@@ -78,11 +78,11 @@ fn boundary_leaves() -> Vec<Row> {
         [boundary(0.0, 0.0, -1.0, 1.0)] gives refused(3, 0);
         // before 4 and 5
         [boundary(1.0, 0.0, 1.0, 1.0), grid([])] gives refused(3, 1);
-        [boundary(0.0, 1.0, -1.0, 1.0), stations(4098)] gives refused(3, 0);
+        [boundary(0.0, 1.0, -1.0, 1.0), stations(65_538)] gives refused(3, 0);
     }
 }
 
-/// "4 fewer than 3 stations. 5 more than 4,097."
+/// "4 fewer than 3 stations." "Refusal 5 now begins at 65,538 stations." Once 4,097 were the most.
 fn number_of_stations() -> Vec<Row> {
     rows! {
         [grid([])] gives refused(4, 0);
@@ -94,15 +94,19 @@ fn number_of_stations() -> Vec<Row> {
         // the Linear's lists are too long then
         [grid([1.0, 2.0, 3.0])] gives refused(12, 2);
         [stations(4097)] gives ACCEPTED;
-        [stations(4098)] gives refused(5, 0);
-        [stations(8194)] gives refused(5, 0);
+        [stations(4098)] gives ACCEPTED;
+        [stations(65_537)] gives ACCEPTED;
+        [stations(65_538)] gives refused(5, 0);
+        // 2 and 3 more than a multiple of 2^16
+        [stations(131_074)] gives refused(5, 0);
+        [stations(131_075)] gives refused(5, 0);
         // before 6, 7 and 8
         [grid([NAN, 2.0])] gives refused(4, 0);
         [grid([2.0, 1.0])] gives refused(4, 0);
         [grid([1.0, 2.0]), dimension(0)] gives refused(4, 0);
-        [stations(4098), station(0, NAN)] gives refused(5, 0);
-        [stations(4098), station(4097, 0.0)] gives refused(5, 0);
-        [stations(4098), dimension(33)] gives refused(5, 0);
+        [stations(65_538), station(0, NAN)] gives refused(5, 0);
+        [stations(65_538), station(65_537, 0.0)] gives refused(5, 0);
+        [stations(65_538), dimension(33)] gives refused(5, 0);
     }
 }
 
@@ -117,7 +121,7 @@ fn grid_finite() -> Vec<Row> {
         [stations(3), station(0, -0.25 * HUGE), station(2, 0.25 * HUGE)] gives ACCEPTED;
         // finite, but 1.5 times the end's stretch is not
         [station(0, -HUGE), station(7, HUGE)] gives refused(20, 0);
-        [stations(4097), station(4096, INFINITY)] gives refused(6, 4096);
+        [stations(65_537), station(65_536, INFINITY)] gives refused(6, 65_536);
         // before 7 and 8
         [station(1, -1.0), station(6, NAN)] gives refused(6, 6);
         [station(6, NAN), dimension(0)] gives refused(6, 6);
@@ -138,7 +142,7 @@ fn grid_rising() -> Vec<Row> {
         [station(7, 4.0), station(5, 2.0)] gives refused(7, 5);
         [station(2, BELOW_1)] gives ACCEPTED;
         [station(2, 1.0)] gives refused(7, 3);
-        [stations(4097), station(4096, 4095.0)] gives refused(7, 4096);
+        [stations(65_537), station(65_536, 65_535.0)] gives refused(7, 65_536);
         // before 8
         [station(7, 4.0), dimension(0)] gives refused(7, 7);
     }

@@ -44,8 +44,8 @@ fn stationary_counts() -> Vec<Row> {
         [stations(3), stationary(0, 1)] gives ACCEPTED;
         [stations(3), stationary(1, 1)] gives refused(14, 0);
         [stations(3), stationary(2, 0)] gives refused(14, 0);
-        [stations(4097), stationary(4095, 0)] gives ACCEPTED;
-        [stations(4097), stationary(2048, 2048)] gives refused(14, 0);
+        [stations(65_537), stationary(65_535, 0)] gives ACCEPTED;
+        [stations(65_537), stationary(32_768, 32_768)] gives refused(14, 0);
         // before 15, 16, 17 and 18
         [stationary(4, 3), shorter(0)] gives refused(14, 0);
         [stationary(4, 3), row_count(0, 0, 257)] gives refused(14, 0);
@@ -234,8 +234,8 @@ fn unread_bounds() -> Vec<Row> {
         [stationary(1, 1), all_empty([14, 15]), end(NAN, 1.0)] gives refused(17, 1);
         [stationary(1, 1), all_empty([14, 15]), amax(1, NAN), amax(6, NAN)] gives ACCEPTED;
         [stationary(1, 1), all_empty([14, 15]), amax(2, NAN)] gives refused(17, 4);
-        [stations(4097), amax(4096, NAN), amax(0, NAN)] gives ACCEPTED;
-        [stations(4097), amax(4095, NAN)] gives refused(17, 4097);
+        [stations(65_537), amax(65_536, NAN), amax(0, NAN)] gives ACCEPTED;
+        [stations(65_537), amax(65_535, NAN)] gives refused(17, 65_537);
     }
 }
 

@@ -16,14 +16,14 @@ unfolding assembled
 returns c =
     let case = c.args.case.now in
     let call = c.copp3_assemble-answer in
-    let number : ℕ = 2779096485 in
+    let number : ℕ = 13876516240719085568 in
     let float = of_bits binary64 13876516240719085568 in
     let entry : Buffers =
     buffers (take c.item.result (replicate 128 number)) (take c.item-2.result (replicate 128 number)) (take c.item-3.result (replicate 128 float)) (take c.item-4.result (replicate 128 float))
-    (take c.item-5.result (replicate 128 165)) (take c.item-6.result (replicate 128 number)) (take c.item-7.result (replicate 128 float)) (take c.item-8.result (replicate 160 13876516240719085568)) in
+    (take c.item-5.result (replicate 128 165)) (take c.item-6.result (replicate 128 number)) (take c.item-7.result (replicate 128 float)) (take c.item-8.result (replicate 160 number)) in
     let rest : Buffers =
     buffers (drop c.item.result (replicate 128 number)) (drop c.item-2.result (replicate 128 number)) (drop c.item-3.result (replicate 128 float)) (drop c.item-4.result (replicate 128 float))
-    (drop c.item-5.result (replicate 128 165)) (drop c.item-6.result (replicate 128 number)) (drop c.item-7.result (replicate 128 float)) (drop c.item-8.result (replicate 160 13876516240719085568)) in
+    (drop c.item-5.result (replicate 128 165)) (drop c.item-6.result (replicate 128 number)) (drop c.item-7.result (replicate 128 float)) (drop c.item-8.result (replicate 160 number)) in
     let exit : Buffers = buffers call.new.rows call.new.columns call.new.values call.new.right call.new.kinds call.new.dimensions call.new.cost call.new.index in
     called c.args.lengths.list.now c.args.lengths.at entry exit
     (record {
@@ -34,7 +34,7 @@ returns c =
       kinds_lent = lent 165 128 _ _ _ c.item-5.ensures c.requires.kinds_fit call.auto.kinds;
       dimensions_lent = lent number 128 _ _ _ c.item-6.ensures c.requires.dimensions_fit call.auto.dimensions;
       cost_lent = lent float 128 _ _ _ c.item-7.ensures c.requires.cost_fit call.auto.cost;
-      index_lent = lent 13876516240719085568 160 _ _ _ c.item-8.ensures c.requires.index_fit call.auto.index;
+      index_lent = lent number 160 _ _ _ c.item-8.ensures c.requires.index_fit call.auto.index;
     })
     rest call.result case.job case.records _
     (call.ensures ∙ ap (λ (p : Problem). assembled case.job case.records p entry)
