@@ -38,16 +38,16 @@ module _ (pool : List Float) (d stations : ℕ) (os : List Objective) (i : ℕ) 
   all_pass h = sym (so_far ∙ rw (drop_of_length-le os h))
 
 -- `some`, by a flag that is raised on the way over the first count of the slots
-abbrev slot : List Objective → ℕ → Objective
+abbrev pub slot : List Objective → ℕ → Objective
 slot slots i = get_or slots i (Time nan)
 
 module _ (slots : List Objective) (count : ℕ) (full : count ≤ length slots) where
-  next : (i : ℕ) → i < count → drop i (take count slots) ≡ slot slots i ∷ drop (i + 1) (take count slots)
+  pub next : (i : ℕ) → i < count → drop i (take count slots) ≡ slot slots i ∷ drop (i + 1) (take count slots)
   next i h =
       let e : i < length (take count slots) = omega (arith, length-take-le count slots full) in
       rw (add-one i, drop-cons (take count slots) i (Time nan) e, get_or-take count slots i (Time nan) h)
 
-  last : (i : ℕ) → count ≤ i → drop i (take count slots) ≡ []
+  pub last : (i : ℕ) → count ≤ i → drop i (take count slots) ≡ []
   last i h =
       let g : length (take count slots) ≤ i = omega (arith, length-take-le count slots full) in
       drop_of_length-le (take count slots) g

@@ -148,26 +148,8 @@ fn owner_record(answer: OwnerAnswer) -> OwnerRecord
     }
 }
 
-// Sizing of a problem whose objectives the records stand for: their kinds are judged first.
-#[tactic(auto, unfolding(crate::specs::Exported::sizing_after))]
-fn size(items: &[ObjectiveRecord; 16], problem: &Problem) -> Answer
-    ensures { told result ≡ sizing_after (kind_refusal problem.now.job.count items.now) (problem_of problem.now) }
-{
-    kind_check(items, problem.job.count)?;
-    sizing::size(problem)
-}
-
-// The assembly, in the same order.
-#[tactic(auto, unfolding(crate::specs::Exported::assembly_after))]
-fn assemble(items: &[ObjectiveRecord; 16], problem: &Problem, out: &mut Buffers) -> Answer
-    ensures same { SameBuffers out.old out.new }
-    ensures answer { answered result (buffers_of out.new) ≡ assembly_after (kind_refusal problem.now.job.count items.now) (problem_of problem.now) (buffers_of out.old) }
-{
-    kind_check(items, problem.job.count)?;
-    assembly::assemble(problem, out)
-}
-
 // Document 01's sizing: every refusal tested before 19, or the four counts. One slice for each table: the C interface needs it.
+#[tactic(auto, unfolding(crate::specs::Exported::sizing_after))]
 pub fn copp3_size(
     job: Job,
     records: ObjectiveRecords,
@@ -192,6 +174,10 @@ pub fn copp3_size(
 ) -> AnswerRecord
     ensures { result ≡ sized_as job.count records.items (lent job (objectives_of records) grid acc_rows jerk_rows amax acc_a acc_b acc_max jerk_a jerk_b jerk_c jerk_max thermal torque_a torque_b torque_g start_roots end_roots pool) }
 {
+    // Before the problem is made: a refused kind costs no more than the test.
+    if let Err(refusal) = kind_check(&records.items, job.count) {
+        return AnswerRecord::from(Err(refusal));
+    }
     let problem = Problem {
         job,
         objectives: objectives_of(&records.items),
@@ -222,10 +208,11 @@ pub fn copp3_size(
         },
         pool,
     };
-    AnswerRecord::from(size(&records.items, &problem))
+    AnswerRecord::from(sizing::size(&problem))
 }
 
 // Document 01's assembly. One slice for each table and each buffer, as there.
+#[tactic(auto, unfolding(crate::specs::Exported::assembly_after))]
 pub fn copp3_assemble(
     job: Job,
     records: ObjectiveRecords,
@@ -258,7 +245,11 @@ pub fn copp3_assemble(
 ) -> AnswerRecord
     ensures { exported result (buffers_after rows columns values right kinds dimensions cost index) ≡ assembled_as job.count records.items (lent job (objectives_of records) grid acc_rows jerk_rows amax acc_a acc_b acc_max jerk_a jerk_b jerk_c jerk_max thermal torque_a torque_b torque_g start_roots end_roots pool) (buffers_before rows columns values right kinds dimensions cost index) }
 {
-    // As in copp3_size: a function that makes a Problem has the same 20 parameters and each call the same 20 arguments, so it is no plainer.
+    // As in copp3_size.
+    if let Err(refusal) = kind_check(&records.items, job.count) {
+        return AnswerRecord::from(Err(refusal));
+    }
+    // A function that makes a Problem has the same 20 parameters and each call the same 20 arguments, so it is no plainer.
     let problem = Problem {
         job,
         objectives: objectives_of(&records.items),
@@ -299,7 +290,7 @@ pub fn copp3_assemble(
         cost,
         index,
     };
-    AnswerRecord::from(assemble(&records.items, &problem, &mut out))
+    AnswerRecord::from(assembly::assemble(&problem, &mut out))
 }
 
 // Request 6: the owner of a row, by an index with a number of objectives. Here a row number is plain for the last time.

@@ -1,14 +1,12 @@
 -- What the scans of Time, of the a and b columns and of all objectives tell of the blocks. Assumes nothing.
-use mathlib.Core.Path.{◌≡◌, refl, sym, ap, ap₂, ◌∙◌}
-use mathlib.Core.Bool.{Bool, true, false, ◌&&◌}
-use mathlib.Core.List.{List, [], ◌∷◌}
-use Prim.Native.Nat.{ℕ, zero, suc, ◌+◌, ◌<◌}
-use native.Mathlib.Nat.{add-zero, not-suc-le-zero, le_of_suc-le-suc}
-use native.Mathlib.Omega.{arith}
-use Rattle.std.specs.Bool.{MatchBool}
-use Rattle.std.specs.List.{AllWithin, HoldsAt}
+use mathlib.Core.Path.{◌≡◌, refl, sym, ap, ◌∙◌}
+use mathlib.Core.Bool.{Bool, true, ◌&&◌}
+use mathlib.Core.List.{List, [], ◌∷◌, ◌++◌}
+use Prim.Native.Nat.{ℕ, ◌+◌, ◌≤◌}
+use native.Mathlib.Nat.{add-zero}
 use lib.Ieee.{Float, neg, of_bits}
-use lib.ListN.{length}
+use lib.ListN.{length, take}
+use Rattle.std.proofs.lemmas.List.{take_all}
 use Rattle.model.specs.Numbers.{at, finite, ◌⊗◌, +0}
 use Rattle.model.specs.Lists.{list}
 use Rattle.model.specs.Problem.{Problem, Path, L, skip}
@@ -18,7 +16,8 @@ use Rattle.model.specs.Assembled.{width, objective_blocks, all_finite}
 use Rattle.model.specs.declared.Objective.{Objective}
 use Rattle.model.specs.declared.Objective.TheVariants.{Linear}
 use Rattle.finiteness.specs.Finite.{each, Each, finite_bands, finite_block, finite_blocks}
-use Rattle.finiteness.proofs.Laws.{each_from, list_finite, each_true, positives, constants}
+use Rattle.buffers.proofs.Laws.{and_assoc}
+use Rattle.finiteness.proofs.Laws.{and_true, each_from, list_finite, each_true, positives, constants}
 
 time_cone_lem : (q : Path) (c j : ℕ) → finite_bands (time_cone q c j).bands ≡ true
 unfolding time_cone of_bits neg
@@ -50,29 +49,30 @@ pub linear_scanned : (p : Problem) (c : ℕ) {o : Objective} {w : Float} {a al b
 unfolding objective_block linear_block
 linear_scanned p c e = rw e
 
--- whether the block of an objective, wherever its columns start, is finite
-abbrev pub Judged : Problem → Bool → Objective → Type 0
-Judged p b o = (c : ℕ) → b ≡ finite_block (objective_block p c o)
+-- of i objectives, wherever their columns start
+pub record Tested (r : Bool) (p : Problem) (os : List Objective) (i : ℕ) : Type 0 where
+  pub says : (c : ℕ) → r ≡ finite_blocks (objective_blocks p c (take i os))
 
 module _ (p : Problem) where
-  passes : (c : ℕ) (os : List Objective) → AllWithin (Judged p true) os 0 (length os) → true ≡ finite_blocks (objective_blocks p c os)
+  more : (c : ℕ) (os : List Objective) (o : Objective) {v : Bool} → ((c : ℕ) → v ≡ finite_block (objective_block p c o))
+      → (finite_blocks (objective_blocks p c os) && v) ≡ finite_blocks (objective_blocks p c (os ++ (o ∷ [])))
   unfolding objective_blocks
-  passes c [] h = refl
-  passes c (o ∷ os) h = ap₂ ◌&&◌ (h 0 o (omega arith) (omega arith) c) (passes (c + width (objective_block p c o)) os (λ k d l m. h (suc k) d (omega arith) (omega arith)))
+  more c [] o h = h c ∙ sym (and_true (finite_block (objective_block p c o)))
+  more c (x ∷ os) o {v} h =
+      let d = c + width (objective_block p c x) in
+      and_assoc (finite_block (objective_block p c x)) (finite_blocks (objective_blocks p d os)) v ∙ ap (λ (b : Bool). finite_block (objective_block p c x) && b) (more d os o h)
 
-  and_false : (b : Bool) → false ≡ (b && false)
-  and_false true = refl
-  and_false false = refl
-
-  fails : (c : ℕ) (os : List Objective) (k : ℕ) → k < length os → HoldsAt (Judged p false) os k → false ≡ finite_blocks (objective_blocks p c os)
+  pub tested_none : {os : List Objective} → Tested true p os 0
   unfolding objective_blocks
-  fails c [] k l h = absurd (not-suc-le-zero l)
-  fails c (o ∷ os) zero l h = ap (λ (x : Bool). x && finite_blocks (objective_blocks p (c + width (objective_block p c o)) os)) (h o c)
-  fails c (o ∷ os) (suc k) l h =
-      and_false (finite_block (objective_block p c o))
-      ∙ ap (λ (x : Bool). finite_block (objective_block p c o) && x) (fails (c + width (objective_block p c o)) os k (le_of_suc-le-suc l) (λ d. h d))
+  tested_none = record { says = λ c. refl }
 
-  -- so the objectives are judged one after another, up to the first that fails
-  pub objectives_scanned : (os : List Objective) (r : Bool) → MatchBool r (AllWithin (Judged p true) os 0 (length os)) ((k : ℕ) × (k < length os) × HoldsAt (Judged p false) os k) → (c : ℕ) → r ≡ finite_blocks (objective_blocks p c os)
-  objectives_scanned os true h c = passes c os h
-  objectives_scanned os false h c = fails c os h.0 h.1 h.2
+  -- one more, and no branch: it is tested whatever those before it gave
+  pub tested_more : {os : List Objective} {i : ℕ} (o : Objective) {u v r : Bool} → take (i + 1) os ≡ take i os ++ (o ∷ []) → Tested u p os i
+      → ((c : ℕ) → v ≡ finite_block (objective_block p c o)) → r ≡ (u && v) → Tested r p os (i + 1)
+  tested_more {os} {i} o {v} t g h e =
+      record {
+        says = λ c. e ∙ ap (λ (x : Bool). x && v) (g.says c) ∙ more c (take i os) o h ∙ ap (λ (l : List Objective). finite_blocks (objective_blocks p c l)) (sym t);
+      }
+
+  pub tested_all : {os : List Objective} {i : ℕ} {r : Bool} → Tested r p os i → length os ≤ i → (c : ℕ) → r ≡ finite_blocks (objective_blocks p c os)
+  tested_all {os} {i} g l c = g.says c ∙ ap (λ (xs : List Objective). finite_blocks (objective_blocks p c xs)) (take_all i os l)

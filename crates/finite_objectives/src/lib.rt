@@ -19,7 +19,7 @@ ghost use Rattle.objectives.specs.Lends.{lends_of};
 use buffers::{Path, weighted};
 use columns::{first_xi, length_xi};
 use finiteness::{all_finite, every};
-use linear::{LinearCosts, column_cost};
+use linear::{LinearCosts, Linears};
 use model::{Column, Objective};
 use numbers::{both, is_finite};
 use objective_kinds::{any_is, is_linear};
@@ -158,10 +158,11 @@ pub fn ab_costs(costs: &LinearCosts) -> bool
 {
     let columns = 2 * costs.input.path.grid.len();
     if any_is(costs.objectives, is_linear) {
+        let linears = Linears::among(costs.objectives);
         return every(
             0,
             columns,
-            |i| is_finite(column_cost(costs, Column { at: i })),
+            |i| is_finite(linears.column_cost(costs, Column { at: i })),
         );
     }
     true
@@ -188,14 +189,14 @@ fn objective(input: &ObjectiveInput, o: Objective) -> bool
     }
 }
 
-// All that count.
+// All that count. No branch: it goes on to the last, as every scan does.
 pub fn objectives(list: &ObjectiveList) -> bool
     ensures { (c : ℕ) → result ≡ finite_blocks (objective_blocks (lends_of list.now.input) c list.now.objectives.now) }
 {
     let input = &list.input;
-    list.objectives.iter().all(
-        |o|
-            requires { Ready (lends_of input.now) o.now }
-        { objective(input, *o) },
-    )
+    let mut ok = true;
+    for o in list.objectives {
+        ok = both(ok, objective(input, *o));
+    }
+    ok
 }

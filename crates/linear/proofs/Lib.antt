@@ -3,3 +3,4 @@ pub mod Columns
 pub mod Objectives
 pub mod Cost
 pub mod Fitting
+pub mod Gathering

@@ -1,10 +1,11 @@
 -- What objectives charge, one after another, and where none is a Linear.
-use mathlib.Core.Path.{◌≡◌, refl, sym}
+use mathlib.Core.Path.{◌≡◌, refl, sym, ap}
 use mathlib.Core.Bool.{false}
 use mathlib.Core.List.{List, [], ◌∷◌, ◌++◌, append-nil}
 use Prim.Native.Nat.{ℕ, ◌+◌}
 use lib.Ieee.{Float}
 use lib.ListN.{take}
+use Rattle.std.specs.List.{filter}
 use Rattle.model.specs.Lists.{joined}
 use Rattle.model.specs.Problem.{some, is_linear}
 use Rattle.model.specs.Program.{Cell}
@@ -28,3 +29,11 @@ module _ (s : List Float) (e : Ends) (r0 r1 pool : List Float) where
   none_charged (ThermalEnergy w a al ∷ os) h = none_charged os h
   none_charged (TotalVariationTorque w a al ∷ os) h = none_charged os h
   none_charged (Linear w a al b bl ∷ os) h = never (sym h)
+
+  -- the others charge nothing
+  pub linears_charge : (os : List Objective) → joined (charges_of s e r0 r1 pool) (filter is_linear os) ≡ joined (charges_of s e r0 r1 pool) os
+  linears_charge [] = refl
+  linears_charge (Time w ∷ os) = linears_charge os
+  linears_charge (ThermalEnergy w a al ∷ os) = linears_charge os
+  linears_charge (TotalVariationTorque w a al ∷ os) = linears_charge os
+  linears_charge (Linear w a al b bl ∷ os) = ap (λ (l : List Cell). charges_of s e r0 r1 pool (Linear w a al b bl) ++ l) (linears_charge os)

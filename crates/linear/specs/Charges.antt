@@ -52,3 +52,10 @@ Fits s e r0 r1 pool (ThermalEnergy w start len) = Unit {0}
 Fits s e r0 r1 pool (TotalVariationTorque w start len) = Unit {0}
 Fits s e r0 r1 pool (Linear w a al b bl) =
     (length r0 ≡ max e.n0 1 - 1) × (length r1 ≡ max e.n1 1 - 1) × (al ≡ length s) × (bl ≡ length s) × (a + al ≤ length pool) × (b + bl ≤ length pool)
+
+-- the lists of an objective that is a Linear have length l
+abbrev pub Long : ℕ → Objective → Type 0
+Long l (Time w) = Unit {0}
+Long l (ThermalEnergy w start len) = Unit {0}
+Long l (TotalVariationTorque w start len) = Unit {0}
+Long l (Linear w a al b bl) = (al ≡ l) × (bl ≡ l)

@@ -3,8 +3,10 @@ use Rattle.std.specs.Prelude.{List, ℕ, Float}
 use Rattle.model.specs.Program.{Cell}
 use Rattle.model.specs.Objectives.{end_charge}
 use Rattle.model.specs.declared.Objective.{Objective}
+use Rattle.model.specs.declared.Objective.TheVariants.{Linear}
 use Rattle.buffers.specs.Paths.{path_of}
 use Rattle.linear.specs.Charges.{Fits, linear_charges, charges_of, ab_cost}
+use Rattle.linear.specs.declared.linears.LinearLists.{LinearLists}
 use Rattle.linear.specs.declared.parts.LinearInput.{LinearInput}
 use Rattle.linear.specs.declared.parts.LinearObjective.{LinearObjective}
 use Rattle.linear.specs.declared.parts.LinearEnd.{LinearEnd}
@@ -25,3 +27,7 @@ charges_by o = linear_charges o.path.grid.now o.path.ends o.roots.start.now o.ro
 
 abbrev pub charge_at : LinearEnd → ℕ → Float
 charge_at e = end_charge (path_of e.objective.path) e.objective.weight e.objective.alpha.now e.objective.beta.now e.moving e.last e.roots.now
+
+-- the objective whose lists, of length l, are told by their places
+abbrev pub listed_as : ℕ → LinearLists → Objective
+listed_as l x = Linear x.weight x.alpha l x.beta l

@@ -4,6 +4,7 @@
 
 mod costs;
 mod end;
+mod linears;
 mod objective;
 mod parts;
 
@@ -17,10 +18,11 @@ ghost use Rattle.linear.specs.Charges.{Charged};
 ghost use Rattle.linear.specs.Parts.{FitsIn, charges_in, cost_in};
 
 pub use costs::LinearCosts;
+use linears::charged;
+pub use linears::{LinearLists, Linears};
 use model::{Buffers, Column, Objective, Tally};
 use objective_kinds::{any_is, is_linear};
 pub use parts::LinearInput;
-use parts::LinearObjective;
 
 // The cost of column c after an objective, from its cost x before: only a Linear adds to it.
 fn charge(x: f64, input: &LinearInput, o: Objective, c: Column) -> f64
@@ -31,18 +33,15 @@ fn charge(x: f64, input: &LinearInput, o: Objective, c: Column) -> f64
         Objective::Linear {
             weight,
             alpha,
-            alpha_len,
             beta,
-            beta_len,
+            ..
         } => {
-            let linear = LinearObjective {
-                path: input.path,
-                roots: input.roots,
-                alpha: &input.pool[alpha..alpha + alpha_len],
-                beta: &input.pool[beta..beta + beta_len],
+            let lists = LinearLists {
                 weight,
+                alpha,
+                beta,
             };
-            linear.clarabel_objective_linear_copp3(x, c)
+            charged(x, input, &[lists], c)
         }
         _ => x,
     }
@@ -67,7 +66,13 @@ pub fn ab_costs(t: Tally, out: &mut Buffers, costs: &LinearCosts) -> Tally
 {
     let count = 2 * costs.input.path.grid.len();
     if any_is(costs.objectives, is_linear) {
-        return buffers::fill_cost(t, out, count, |i| column_cost(costs, Column { at: i }));
+        let linears = Linears::among(costs.objectives);
+        return buffers::fill_cost(
+            t,
+            out,
+            count,
+            |i| linears.column_cost(costs, Column { at: i }),
+        );
     }
     buffers::fill_cost(t, out, count, |_i| 0.0)
 }

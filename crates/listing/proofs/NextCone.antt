@@ -15,7 +15,7 @@ module _ (h : ℕ) (dimensions : List ℕ) (j : ℕ) {first end : ℕ} (is : fir
   next_first e = e ∙ ap (λ (f : ℕ). min (f + get_or dimensions j 0) h) is ∙ sym (ap (first_row h dimensions) (add-one j))
 
   module _ (y : Layout) (a : Matrix) (entries : ℕ) (right : List Float) (kinds : List ℕ) where
-    cone_told : end ≡ first_row h dimensions (j + 1) → cone_head y kinds dimensions j first ++ over (row y a entries right) first (end - first) ≡ cone y a entries right h kinds dimensions j
+    pub cone_told : end ≡ first_row h dimensions (j + 1) → cone_head y kinds dimensions j first ++ over (row y a entries right) first (end - first) ≡ cone y a entries right h kinds dimensions j
     unfolding cone
     cone_told e = simp (e, is, add-one j)
 

@@ -4,17 +4,19 @@
 mod cones;
 mod contents;
 mod each;
+mod numbered;
 mod pattern;
 mod rows;
 
 ghost use Rattle.std.specs.Prelude.{◌≡◌};
 ghost use Rattle.text.specs.Text.{says};
 ghost use Rattle.listing.specs.Listed.{contents_of};
-ghost use Rattle.listing.specs.Page.{counts_line, page_of};
+ghost use Rattle.listing.specs.Page.{counts_line, page_told};
 
 use column_names::Layout;
 pub use contents::Contents;
-use model::{Answer, FourCounts, Objective};
+use model::{FourCounts, Objective};
+pub use numbered::{Numbered, NumberedRefusal};
 use text::Writer;
 
 // An accepted problem: what its names and owners go by, its four counts, and what the buffers hold.
@@ -40,20 +42,20 @@ fn counts_line(out: &mut Writer, counts: FourCounts)
 }
 
 // The page of an answer and of what the buffers hold after it. The index is that of the buffers, so what names go by comes in parts and not as a Layout.
-// The refusal of an Answer is a Rule. What was promised here of any number, `refusal_words::refused` promises: the same text.
-#[tactic(auto, using(text::proofs::Laws::written_append), unfolding(crate::specs::Page::page_of))]
-pub fn page(
+// A refusal is any that has a number and a place: an Answer's, which has the number of its Rule, or a NumberedRefusal of any number.
+#[tactic(auto, using(text::proofs::Laws::written_append), unfolding(crate::specs::Page::page_told))]
+pub fn page<E: Numbered>(
     out: &mut Writer,
-    answer: Answer,
+    answer: Result<FourCounts, E>,
     stations: usize,
     objectives: &[Objective],
     count: usize,
     contents: &Contents,
 )
-    ensures { says (page_of stations objectives.now count answer (contents_of contents.now)) out }
+    ensures { says (page_told E.number_of E.place_of stations objectives.now count answer (contents_of contents.now)) out }
 {
     match answer {
-        Err(refusal) => refusal_words::refused(out, refusal.rule.number(), refusal.place),
+        Err(refusal) => refusal_words::refused(out, refusal.number(), refusal.place()),
         Ok(counts) => {
             let layout = Layout {
                 stations,

@@ -4,7 +4,7 @@ use mathlib.Core.Bool.{Bool, true, false, not}
 use Prim.Native.Nat.{ℕ, suc, ◌*◌, ◌<◌}
 use native.Mathlib.Nat.{sub_self, le_refl, zero-mul, mul-pos}
 use native.Mathlib.Omega.{arith}
-use lib.Ieee.{Float, nan, inf, fin, binary64, sub, eq, sum, round, up, down}
+use lib.Ieee.{Float, nan, inf, fin, binary64, sub, eq, is_nan, sum, round, up, down}
 use lib.Ieee.Scale.{round_same}
 use lib.Pow.{pow_pos}
 use lib.IntN.{ℤ, pos, negsuc}
@@ -36,3 +36,10 @@ self_less nan = refl
 self_less (inf true) = refl
 self_less (inf false) = refl
 self_less (fin s m e) = ap (λ y. eq y y) (sum_self s (m * up e * down e) (down e * down e) (mul-pos (down_pos e) (down_pos e)))
+
+pub less_self : (x : Float) → not (is_nan (sub binary64 x x)) ≡ finite x
+unfolding is_nan sub
+less_self nan = refl
+less_self (inf true) = refl
+less_self (inf false) = refl
+less_self (fin s m e) = ap (λ y. not (is_nan y)) (sum_self s (m * up e * down e) (down e * down e) (mul-pos (down_pos e) (down_pos e)))

@@ -6,12 +6,12 @@ ghost use Rattle.std.specs.Prelude.{◌≡◌, ◌&&◌, ◌^◌, ◌<◌, get_o
 ghost use Rattle.model.specs.Numbers.{finite};
 ghost use Rattle.model.specs.Lists.{total};
 
-// Neither NaN nor infinite.
-#[tactic(auto, using(crate::proofs::Finite::finite_lem))]
+// Neither NaN nor infinite: only then is x - x a number. Not `x.is_finite()`, of which two tests do not become one: the scans take a third longer with it.
+#[tactic(auto, using(crate::proofs::Finite::less_self))]
 pub fn is_finite(x: f64) -> bool
     ensures { result ≡ finite x }
 {
-    x.is_finite()
+    !(x - x).is_nan()
 }
 
 // Both tests pass. No branch: a scan goes on to its end anyway. `&` answers in std's word for bits; that it is the `&&` of the definitions is said once, here.

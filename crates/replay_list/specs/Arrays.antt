@@ -4,7 +4,7 @@ use Rattle.model.specs.Answers.{Buffers, buffers}
 use Rattle.replay_list.specs.declared.arrays.Arrays.{Arrays}
 
 abbrev pub held_in : Arrays → Buffers
-held_in a = buffers a.rows a.columns a.values a.right a.kinds a.dimensions a.cost a.index
+held_in a = buffers a.rows.now a.columns.now a.values.now a.right.now a.kinds.now a.dimensions.now a.cost.now a.index.now
 
 -- the first n k places of array k
 unfoldable pub fronts : (ℕ → ℕ) → Buffers → Buffers

@@ -8,16 +8,17 @@ use crate::compare::agrees;
 use crate::file::{Place, past};
 use copp3_c::AnswerRecord;
 
-#[derive(Drop)]
-pub struct Arrays {
-    pub rows: [usize; 128],
-    pub columns: [usize; 128],
-    pub values: [f64; 128],
-    pub right: [f64; 128],
-    pub kinds: [u8; 128],
-    pub dimensions: [usize; 128],
-    pub cost: [f64; 128],
-    pub index: [usize; 160],
+// By reference: an array that is moved is copied.
+#[derive(Clone, Copy)]
+pub struct Arrays<'a> {
+    pub rows: &'a [usize; 128],
+    pub columns: &'a [usize; 128],
+    pub values: &'a [f64; 128],
+    pub right: &'a [f64; 128],
+    pub kinds: &'a [u8; 128],
+    pub dimensions: &'a [usize; 128],
+    pub cost: &'a [f64; 128],
+    pub index: &'a [usize; 160],
 }
 
 // Where what the buffers hold begins, after the rows, and where it ends.
@@ -57,7 +58,7 @@ pub fn held_at(at: usize, counts: AnswerRecord, written: usize) -> Held
     }
 }
 
-impl Arrays {
+impl Arrays<'_> {
     // Whether the arrays hold what the list says from a place on, for the counts of an answer and so
     // many places of the index.
     #[tactic(auto, using(crate::proofs::Laws::float_before))]
@@ -65,13 +66,24 @@ impl Arrays {
         ensures { result ≡ true → BuffersHold rows.entry.list.now rows.entry.at counts written places_here (held_in self.now) }
     {
         let held = held_at(rows.at, counts, written);
-        agrees(&self.rows, rows, counts.entries)
-            && agrees(&self.columns, rows.to(held.columns), counts.entries)
-            && agrees(&self.values, rows.to(held.values), counts.entries)
-            && agrees(&self.right, rows.to(held.right), counts.rows)
-            && agrees(&self.kinds, rows.to(held.kinds), counts.cones)
-            && agrees(&self.dimensions, rows.to(held.dimensions), counts.cones)
-            && agrees(&self.cost, rows.to(held.cost), counts.columns)
-            && agrees(&self.index, rows.to(held.index), written)
+        // Taken apart first: the check does not cover a reference that is lent as a slice right from its field.
+        let Arrays {
+            rows: row_numbers,
+            columns,
+            values,
+            right,
+            kinds,
+            dimensions,
+            cost,
+            index,
+        } = *self;
+        agrees(row_numbers, rows, counts.entries)
+            && agrees(columns, rows.to(held.columns), counts.entries)
+            && agrees(values, rows.to(held.values), counts.entries)
+            && agrees(right, rows.to(held.right), counts.rows)
+            && agrees(kinds, rows.to(held.kinds), counts.cones)
+            && agrees(dimensions, rows.to(held.dimensions), counts.cones)
+            && agrees(cost, rows.to(held.cost), counts.columns)
+            && agrees(index, rows.to(held.index), written)
     }
 }

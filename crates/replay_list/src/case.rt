@@ -5,7 +5,8 @@ ghost use Rattle.replay_list.specs.Format.{sizing_at, assembly_at, index_written
 ghost use Rattle.replay_list.specs.Decoded.{problem_of};
 ghost use Rattle.replay_list.specs.Agreement.{assembled, lent_buffers, LentFit, ResultAgrees, Agrees, ToldOf};
 
-use crate::arrays::held_at;
+use crate::arrays::{Arrays, held_at};
+use crate::compare::Element;
 use crate::decoded::{Decoded, decode};
 use crate::file::{Place, past};
 use crate::layout::{Case, laid_out};
@@ -71,16 +72,67 @@ fn index_written(count: usize, answer: AnswerRecord) -> usize
     }
 }
 
+// Calls the assembly, into the fronts of new arrays, as long as the list says, and compares.
 // The fact on the lengths stays a `requires`: with a struct that holds their place and the fact, it would have to be said here that this place is the case's own.
 fn assembly_agrees(case: &Case<'_>, decoded: &Decoded) -> bool
     requires { LentFit case.now.start.list.now case.now.places.lengths }
     ensures { result ≡ true → ResultAgrees case.now.start.list.now case.now.places decoded.now.job.count (item_at case.now.start.list.now case.now.places.lengths) (assembled decoded.now.job decoded.now.records (problem_of decoded.now) (lent_buffers case.now.start.list.now case.now.places.lengths)) }
 {
-    let (answer, arrays) = lent::assemble(decoded, case.start.to(case.places.lengths));
+    let lengths = case.start.to(case.places.lengths);
+    // Locals and no fields of a struct: where the front of a field is lent, as `&mut arrays.rows[..n]`,
+    // nothing is known of that field after the call.
+    let mut rows = [usize::BEFORE; 128];
+    let mut columns = [usize::BEFORE; 128];
+    let mut values = [f64::BEFORE; 128];
+    let mut right = [f64::BEFORE; 128];
+    let mut kinds = [u8::BEFORE; 128];
+    let mut dimensions = [usize::BEFORE; 128];
+    let mut cost = [f64::BEFORE; 128];
+    let mut index = [usize::BEFORE; 160];
+    let answer = copp3_c::copp3_assemble(
+        decoded.job,
+        decoded.records,
+        decoded.list(0),
+        decoded.table0(),
+        decoded.table1(),
+        decoded.list(3),
+        decoded.list(4),
+        decoded.list(5),
+        decoded.list(6),
+        decoded.list(7),
+        decoded.list(8),
+        decoded.list(9),
+        decoded.list(10),
+        decoded.list(11),
+        decoded.list(12),
+        decoded.list(13),
+        decoded.list(14),
+        decoded.list(15),
+        decoded.list(16),
+        decoded.list(17),
+        &mut rows[..lengths.item(0)],
+        &mut columns[..lengths.item(1)],
+        &mut values[..lengths.item(2)],
+        &mut right[..lengths.item(3)],
+        &mut kinds[..lengths.item(4)],
+        &mut dimensions[..lengths.item(5)],
+        &mut cost[..lengths.item(6)],
+        &mut index[..lengths.item(7)],
+    );
+    let arrays = Arrays {
+        rows: &rows,
+        columns: &columns,
+        values: &values,
+        right: &right,
+        kinds: &kinds,
+        dimensions: &dimensions,
+        cost: &cost,
+        index: &index,
+    };
     let expected = assembly_at(case.start.to(case.places.answers));
     let written = index_written(decoded.job.count, expected);
-    let rows = case.start.to(case.places.held);
-    answer == expected && arrays.agree(rows, expected, written)
+    let held = case.start.to(case.places.held);
+    answer == expected && arrays.agree(held, expected, written)
 }
 
 // Whether the buffers' lengths are within the arrays here.

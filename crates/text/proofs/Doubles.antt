@@ -22,7 +22,7 @@ number_nan nan h = refl
 number_nan (inf s) h = absurd (subst T (sym h) tt)
 number_nan (fin s k e) h = absurd (subst T (sym h) tt)
 
-number_shown : (x : Float) → is_nan x ≡ false → number x ≡ shown (nearest (magnitude x)) x
+pub number_shown : (x : Float) → is_nan x ≡ false → number x ≡ shown (nearest (magnitude x)) x
 unfolding number is_nan
 number_shown nan h = absurd (subst T h tt)
 number_shown (inf s) h = refl
