@@ -5,7 +5,7 @@ ghost use Rattle.std.specs.Prelude.{◌≡◌, length};
 use buffers::Path;
 use model::Bounds;
 
-// The path, the bounds at its ends, and table 2 with a bound for each station, as refusal 12 leaves it.
+// The path, the bounds at its ends, and table 2 with a bound for each station, as refusal 15 leaves it.
 #[derive(Clone, Copy)]
 pub struct Limits<'a> {
     pub path: Path<'a>,

@@ -39,8 +39,8 @@ impl LinearLists {
     }
 }
 
-// The cost x of column c after these Linears, one after another. All charges go through this loop.
-pub fn charged(x: f64, input: &LinearInput, linears: &[LinearLists], c: Column) -> f64
+// The cost x of column c after these Linears, one after another. No other place charges a Linear, so that the compiler puts the charge into this loop.
+pub(crate) fn charged(x: f64, input: &LinearInput, linears: &[LinearLists], c: Column) -> f64
     requires { All (FitsIn input.now) (map (listed_as (length input.now.path.grid.now)) linears.now) }
     ensures { Charged result x c.at (joined (charges_in input.now) (map (listed_as (length input.now.path.grid.now)) linears.now)) }
 {

@@ -77,7 +77,7 @@ pub struct Row {
     pub at: usize,
 }
 
-// It holds no bound: document 01 names the type, and `column_a` makes one of any number; so the contracts of what stores a column state it.
+// It holds no bound: document 01 names the type, and `column_a` makes one of any number; so the contracts of what counts on from a column state it.
 #[derive(Clone, Copy, Default)]
 pub struct Column {
     pub at: usize,

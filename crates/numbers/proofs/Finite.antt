@@ -37,9 +37,9 @@ self_less (inf true) = refl
 self_less (inf false) = refl
 self_less (fin s m e) = ap (λ y. eq y y) (sum_self s (m * up e * down e) (down e * down e) (mul-pos (down_pos e) (down_pos e)))
 
-pub less_self : (x : Float) → not (is_nan (sub binary64 x x)) ≡ finite x
+pub difference_told : (x : Float) → not (is_nan (sub binary64 x x)) ≡ finite x
 unfolding is_nan sub
-less_self nan = refl
-less_self (inf true) = refl
-less_self (inf false) = refl
-less_self (fin s m e) = ap (λ y. not (is_nan y)) (sum_self s (m * up e * down e) (down e * down e) (mul-pos (down_pos e) (down_pos e)))
+difference_told nan = refl
+difference_told (inf true) = refl
+difference_told (inf false) = refl
+difference_told (fin s m e) = ap (λ y. not (is_nan y)) (sum_self s (m * up e * down e) (down e * down e) (mul-pos (down_pos e) (down_pos e)))

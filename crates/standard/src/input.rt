@@ -9,7 +9,7 @@ use buffers::Path;
 use first_order::Limits;
 use model::{Acceleration, Boundary, Bounds, Jerk};
 
-// The path, the boundary states, the bounds at the ends, and tables 0 to 9 of the lengths that refusals 12 and 15 leave.
+// The path, the boundary states, the bounds at the ends, and tables 0 to 9 of the lengths that refusal 15 leaves.
 // That no row count is above 256 (`Few`) stands in the contracts of those who write and not here: crate finite_standard takes the same input without it, and no type may ask more.
 #[derive(Clone, Copy)]
 pub struct StandardInput<'a> {

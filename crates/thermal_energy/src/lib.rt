@@ -21,7 +21,6 @@ use model::{Buffers, Column, ConeKind, Tally, Term};
 use torque::{ScaledTorque, ThermalObjective, TorqueEnd, TorqueStation};
 
 // The first two rows of a cone, on its own column and a xi.
-// The bound on the own column stands in each of the three contracts that take it, and in no struct, since the column differs from call to call.
 fn first_rows(t: Tally, out: &mut Buffers, own: Column, xi: Column) -> Tally
     requires { Room t 2 }
     ensures { Wrote t out.old result out.new (first_band own.at xi.at ∷ []) 2 }
